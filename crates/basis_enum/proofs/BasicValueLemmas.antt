@@ -5,7 +5,7 @@ use Rattle.std.proofs.lemmas.List.{map_more, get_or-replicate, get_or-set_other,
 use Rattle.std.proofs.lemmas.Grind.{get_or-set_at}
 use Rattle.std.proofs.lemmas.List.Elements.{All-weaker}
 use Rattle.rational.specs.Rational.{ℚ}
-use Rattle.lex_tableau.specs.Rows.{Numbers, tableau}
+use Rattle.lex_tableau.specs.Rows.{WholeTableau, tableau}
 use Rattle.linear_systems.specs.Rows.{basic_solution}
 use Rattle.basis_enum.specs.Marks.{AreRowsTo, AreUpTo, IsRowTo, values_of}
 
@@ -13,7 +13,7 @@ pub up_to_128 : (n : ℕ) (variables : List ℕ) → n ≤ 128 → AreUpTo n var
 up_to_128 n variables few h = All-weaker (λ v. (0 < v) × (v ≤ n)) (λ v. (0 < v) × (v ≤ 128)) (λ v b. (b.0, omega (arith, few, b.1))) variables h
 
 -- ---- row by row
-pub rows_start : (t : Numbers) (rows : List (Option ℕ)) → rows ≡ replicate 128 None → AreRowsTo t 0 rows
+pub rows_start : (t : WholeTableau) (rows : List (Option ℕ)) → rows ≡ replicate 128 None → AreRowsTo t 0 rows
 rows_start t rows e =
     record {
       size = ap length e ∙ length-replicate {A = Option ℕ} 128 None;
@@ -21,7 +21,7 @@ rows_start t rows e =
     }
 
 -- the row of variable v
-pub rows_more : (t : Numbers) (n v : ℕ) (old new : List (Option ℕ)) → v ≡ get_or t.basics n 0 → 0 < v → v ≤ 128 → new ≡ set old (v - 1) (Some n) → AreRowsTo t n old → AreRowsTo t (n + 1) new
+pub rows_more : (t : WholeTableau) (n v : ℕ) (old new : List (Option ℕ)) → v ≡ get_or t.basics n 0 → 0 < v → v ≤ 128 → new ≡ set old (v - 1) (Some n) → AreRowsTo t n old → AreRowsTo t (n + 1) new
 rows_more t n v old new is above most e h =
     record {
       size = ap length e ∙ length-set old (v - 1) (Some n) ∙ h.size;
@@ -45,12 +45,12 @@ rows_more t n v old new is above most e h =
         (later l (get_or old l None) f (h.each l k))
 
 -- the row of a variable, after all rows
-pub row_found : (t : Numbers) (rows : List (Option ℕ)) (v : ℕ) (r : Option ℕ) → AreRowsTo t (length t.basics) rows → 0 < v → v ≤ 128 → get_or rows (v - 1) None ≡ r → IsRowTo t (length t.basics) v r
+pub row_found : (t : WholeTableau) (rows : List (Option ℕ)) (v : ℕ) (r : Option ℕ) → AreRowsTo t (length t.basics) rows → 0 < v → v ≤ 128 → get_or rows (v - 1) None ≡ r → IsRowTo t (length t.basics) v r
 row_found t rows v r h above most e =
     subst₂ (IsRowTo t (length t.basics)) (let back : suc (v - 1) ≡ v = omega arith in back) e (h.each (v - 1) (omega arith))
 
 -- ---- one variable more
-pub value_more : (t : Numbers) (xs : List ℕ) (i : ℕ) (q : ℚ) (old new : List ℚ)
+pub value_more : (t : WholeTableau) (xs : List ℕ) (i : ℕ) (q : ℚ) (old new : List ℚ)
     → q ≡ basic_solution (tableau t) (get_or xs i 0) → i < length xs → old ≡ values_of t (take i xs)
     → new ≡ old ++ q ∷ [] → new ≡ values_of t (take (i + 1) xs)
 value_more t xs i q old new k l before pushed =

@@ -2,7 +2,7 @@
 use Rattle.std.proofs.Common.{ℕ, ◌<◌, ◌≤◌, ◌≡◌, ◌+◌, ◌^◌, refl, sym, ap, subst, arith, inl, inr, List, [], ◌∷◌, ◌++◌, length, get_or, eq-or-lt_of_le}
 use Rattle.std.specs.List.{Contains}
 use Rattle.linear_systems.specs.Reached.{in_row, in_column}
-use Rattle.lex_tableau.specs.Rows.{Numbers, tableau, IsTableau}
+use Rattle.lex_tableau.specs.Rows.{WholeTableau, tableau, IsTableau}
 use Rattle.basis_enum.specs.Bases.{digit, basis_of, neighbour_of, HaveDigits}
 use Rattle.lex_tableau.specs.Ratio.{IsLeavingRow, variable_at}
 use Rattle.basis_enum.proofs.NeighbourLemmas.{neighbour_is, neighbour_below}
@@ -14,13 +14,13 @@ use Rattle.std.proofs.lemmas.List.Elements.{Contains-append_left, Contains-appen
 use Rattle.basis_enum.specs.declared.found_pivots.FoundPivot.{FoundPivot}
 use Rattle.basis_enum.specs.Found.{IsFound, HasNone, AreFound}
 
-pub leaving_bounds : (t : Numbers) (r : ℕ) → HaveDigits t → r < length t.basics → (0 < get_or t.basics r 0) × (get_or t.basics r 0 ≤ 128)
+pub leaving_bounds : (t : WholeTableau) (r : ℕ) → HaveDigits t → r < length t.basics → (0 < get_or t.basics r 0) × (get_or t.basics r 0 ≤ 128)
 leaving_bounds t r d h = d _ (in_row r h refl)
 
-pub entering_bounds : (t : Numbers) (c : ℕ) → HaveDigits t → c < length t.nonbasics → (0 < get_or t.nonbasics c 0) × (get_or t.nonbasics c 0 ≤ 128)
+pub entering_bounds : (t : WholeTableau) (c : ℕ) → HaveDigits t → c < length t.nonbasics → (0 < get_or t.nonbasics c 0) × (get_or t.nonbasics c 0 ≤ 128)
 entering_bounds t c d h = d _ (in_column c h refl)
 
-pub target_fits : (t : Numbers) (r c basis leaving entering : ℕ) → IsTableau t → HaveDigits t → r < length t.basics → c < length t.nonbasics → basis ≡ basis_of t.nonbasics → leaving ≡ get_or t.basics r 0 → entering ≡ get_or t.nonbasics c 0 → basis + digit leaving < 2 ^ 128 + digit entering
+pub target_fits : (t : WholeTableau) (r c basis leaving entering : ℕ) → IsTableau t → HaveDigits t → r < length t.basics → c < length t.nonbasics → basis ≡ basis_of t.nonbasics → leaving ≡ get_or t.basics r 0 → entering ≡ get_or t.nonbasics c 0 → basis + digit leaving < 2 ^ 128 + digit entering
 target_fits t r c basis leaving entering h d hr hc p q e =
     let a : neighbour_of t r c + digit (get_or t.nonbasics c 0) ≡ basis_of t.nonbasics + digit (get_or t.basics r 0) = neighbour_is t r c hc in
     let b : neighbour_of t r c < 2 ^ 128 = neighbour_below t r c h d hr hc in
@@ -28,19 +28,19 @@ target_fits t r c basis leaving entering h d hr hc p q e =
     let m : digit entering ≡ digit (get_or t.nonbasics c 0) = ap digit e in
     omega arith
 
-pub leads_back : (t : Numbers) (known : List ℕ) (c r : ℕ) → IsLeavingRow t c r → Contains known (neighbour_of t r c) → HasNone t known c
+pub leads_back : (t : WholeTableau) (known : List ℕ) (c r : ℕ) → IsLeavingRow t c r → Contains known (neighbour_of t r c) → HasNone t known c
 leads_back t known c r h k = record { leads_back = λ q x. subst (λ n. Contains known (neighbour_of t n c)) (lex_row_once t.rated (variable_at t.starts) (tableau t) c r q h x) k }
 
 -- a column without a positive entry has no lexicographic row
-pub no_row : (t : Numbers) (known : List ℕ) (c : ℕ) → ((i : ℕ) → i < t.rated → (tableau t).cell i c ≤ℚ zero_ℚ) → HasNone t known c
+pub no_row : (t : WholeTableau) (known : List ℕ) (c : ℕ) → ((i : ℕ) → i < t.rated → (tableau t).cell i c ≤ℚ zero_ℚ) → HasNone t known c
 no_row t known c h = record { leads_back = λ r x. absurd (not_lt_of_le _ _ (h r x.within) x.positive) }
 
 -- ---- column by column
-pub found_start : (t : Numbers) (place : ℕ) (known : List ℕ) → AreFound t place known 0 []
+pub found_start : (t : WholeTableau) (place : ℕ) (known : List ℕ) → AreFound t place known 0 []
 found_start t place known = record { each = λ m c. absurd (omega (arith, c.1)); all = λ column r h. absurd (omega arith) }
 
-pub found_none : (t : Numbers) (place : ℕ) (known : List ℕ) (n : ℕ) (pivots : List FoundPivot) → AreFound t place known n pivots → HasNone t known n → AreFound t place known (n + 1) pivots
-found_none t place known n pivots f none =
+pub found_none : (t : WholeTableau) (place : ℕ) (known : List ℕ) (n : ℕ) (found : List FoundPivot) → AreFound t place known n found → HasNone t known n → AreFound t place known (n + 1) found
+found_none t place known n found f none =
     record {
       each = λ m c. let z = f.each m c in record { column = z.column; within = (let w : z.column < n = z.within in omega arith); found = z.found };
       all = λ column r h x new. elim (eq-or-lt_of_le (let l : column ≤ n = omega arith in l)) [
@@ -49,15 +49,15 @@ found_none t place known n pivots f none =
       ];
     }
 
-pub found_push : (t : Numbers) (place : ℕ) (known : List ℕ) (n : ℕ) (pivots : List FoundPivot) (m : FoundPivot) → AreFound t place known n pivots → IsFound t place known n m → AreFound t place known (n + 1) (pivots ++ m ∷ [])
-found_push t place known n pivots m f h =
+pub found_push : (t : WholeTableau) (place : ℕ) (known : List ℕ) (n : ℕ) (found : List FoundPivot) (m : FoundPivot) → AreFound t place known n found → IsFound t place known n m → AreFound t place known (n + 1) (found ++ m ∷ [])
+found_push t place known n found m f h =
     record {
-      each = λ k c. elim (Contains-append_cases pivots (m ∷ []) k c) [
+      each = λ k c. elim (Contains-append_cases found (m ∷ []) k c) [
         | inl a ↦ (let z = f.each k a in record { column = z.column; within = (let w : z.column < n = z.within in omega arith); found = z.found })
         | inr b ↦ elim (in_cases m k [] b) [ inl e ↦ record { column = n; within = omega arith; found = subst (IsFound t place known n) e h } | inr b ↦ absurd (omega (arith, b.1)) ]
       ];
       all = λ column r hc x new. elim (eq-or-lt_of_le (let l : column ≤ n = omega arith in l)) [
-        | inl e ↦ (m, Contains-append_right pivots (m ∷ []) m (first_in m []), subst (λ k. IsFound t place known k m) (sym e) h)
-        | inr l ↦ (let z = f.all column r l x new in (z.0, Contains-append_left pivots (m ∷ []) z.0 z.1, z.2))
+        | inl e ↦ (m, Contains-append_right found (m ∷ []) m (first_in m []), subst (λ k. IsFound t place known k m) (sym e) h)
+        | inr l ↦ (let z = f.all column r l x new in (z.0, Contains-append_left found (m ∷ []) z.0 z.1, z.2))
       ];
     }

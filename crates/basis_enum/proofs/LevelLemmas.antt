@@ -2,21 +2,21 @@
 use Rattle.std.proofs.Common.{ℕ, suc, zero, ◌≡◌, ◌<◌, ◌≤◌, ◌+◌, sym, ap, ap₂, ◌∙◌, subst, arith, inl, inr, List, [], ◌∷◌, ◌++◌, length, Ok}
 use Rattle.std.specs.List.{Contains}
 use Rattle.std.proofs.lemmas.List.{get_or_default, length-append}
-use Rattle.lex_tableau.specs.Rows.{Numbers, IsTableau}
-use Rattle.lex_tableau.specs.Starts.{Parts}
+use Rattle.lex_tableau.specs.Rows.{WholeTableau, IsTableau}
+use Rattle.lex_tableau.specs.Starts.{LinearSystem}
 use Rattle.lex_tableau.specs.StartStops.{IsStarted}
 use Rattle.basis_enum.specs.Levels.{Levels, Pivot, AreNextPivots, IsNextLevel, no_tableau, basis_count, most_bases, first_level}
 use Rattle.basis_enum.specs.Reached.{level_of, next_level}
 use Rattle.basis_enum.proofs.AscendingNumberLemmas.{in_cases}
 
 -- level 0
-pub record IsFirst (s : Parts) (l : Levels) : Type 0 where
-  pub start : Numbers
+pub record IsFirst (s : LinearSystem) (l : Levels) : Type 0 where
+  pub start : WholeTableau
   pub started : IsStarted s start
   pub before : l.before ≡ []
   pub level : l.level ≡ start ∷ []
 
-pub first_read : (s : Parts) (l : Levels) → level_of s 0 (Ok l) → IsFirst s l
+pub first_read : (s : LinearSystem) (l : Levels) → level_of s 0 (Ok l) → IsFirst s l
 first_read s l h =
     let same : l ≡ first_level h.0 = cc (h.2) in
     record { start = h.0; started = h.1.2; before = ap (λ (l : Levels). l.before) same; level = ap (λ (l : Levels). l.level) same }
@@ -35,7 +35,7 @@ next_read k p l h =
     record { pivots = h.0; are = h.1.0; some = h.1.1; few = omega (arith, within); next = h.2.2.2 }
 
 -- the tableaux of a level are tableaux
-pub level_valid : (s : Parts) (k : ℕ) (l : Levels) → level_of s k (Ok l) → (t : Numbers) → Contains l.level t → IsTableau t
+pub level_valid : (s : LinearSystem) (k : ℕ) (l : Levels) → level_of s k (Ok l) → (t : WholeTableau) → Contains l.level t → IsTableau t
 level_valid s zero l h t c =
     let f = first_read s l h in
     elim (in_cases f.start t [] (subst (λ xs. Contains xs t) f.level c)) [ inl e ↦ subst IsTableau e f.started.valid | inr x ↦ absurd (omega (arith, x.1)) ]
@@ -44,14 +44,14 @@ level_valid s (suc k) l (p, hp, q) t c =
     subst IsTableau (get_or_default l.level c.0 no_tableau t c.1 ∙ c.2) (n.next.tableaux c.0 (let e : length l.level ≡ length n.pivots = n.next.size in let w : c.0 < length l.level = c.1 in omega arith)).is_tableau
 
 -- there are not too many bases
-pub level_few : (s : Parts) (k : ℕ) (l : Levels) → level_of s k (Ok l) → length (l.before ++ l.level) ≤ most_bases
+pub level_few : (s : LinearSystem) (k : ℕ) (l : Levels) → level_of s k (Ok l) → length (l.before ++ l.level) ≤ most_bases
 level_few s zero l h = (let f = first_read s l h in subst (λ n. n ≤ most_bases) (sym (ap₂ (λ b x. length (b ++ x)) f.before f.level)) (omega arith))
 level_few s (suc k) l (p, hp, q) =
     let n = next_read k p l q in
     subst (λ m. m ≤ most_bases) (sym (ap (λ b. length (b ++ l.level)) n.next.before ∙ length-append (p.before ++ p.level) l.level ∙ ap (λ m. length (p.before ++ p.level) + m) n.next.size)) n.few
 
 -- each level has a basis, so that levels are as few as bases
-pub level_many : (s : Parts) (k : ℕ) (l : Levels) → level_of s k (Ok l) → k < length (l.before ++ l.level)
+pub level_many : (s : LinearSystem) (k : ℕ) (l : Levels) → level_of s k (Ok l) → k < length (l.before ++ l.level)
 level_many s zero l h = (let f = first_read s l h in subst (λ n. 0 < n) (sym (ap₂ (λ b x. length (b ++ x)) f.before f.level)) (omega arith))
 level_many s (suc k) l (p, hp, q) =
     let n = next_read k p l q in

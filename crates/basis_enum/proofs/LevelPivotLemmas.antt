@@ -5,7 +5,7 @@ use Rattle.std.specs.List.Sorted.{IsStrictlyIncreasing}
 use Rattle.std.proofs.Math.Seq.{get_or-append_seam}
 use Rattle.std.proofs.lemmas.List.{length-append, get_or_append_left}
 use Rattle.std.proofs.lemmas.List.Elements.{Contains-append_left, Contains-append_right, Contains-append_cases}
-use Rattle.lex_tableau.specs.Rows.{Numbers}
+use Rattle.lex_tableau.specs.Rows.{WholeTableau}
 use Rattle.basis_enum.specs.Bases.{basis_of, neighbour_of}
 use Rattle.basis_enum.specs.Levels.{Levels, Pivot, no_tableau, bases_of, entering, target, IsPivot, AreNextPivots, IsNew, IsEarlierPivot}
 use Rattle.lex_tableau.specs.Ratio.{IsLeavingRow}
@@ -16,10 +16,10 @@ use Rattle.basis_enum.proofs.FoundPivotLemmas.{entering_bounds}
 use Rattle.basis_enum.specs.Next.{target_of, order_of, pivot_of, AreSmall, IsNextOf, AreNewPivots}
 use Rattle.linear_systems.proofs.LexRowLemmas.{lex_row_once}
 
-pub basis_at : (level : List Numbers) (numbers : List ℕ) (place : ℕ) → numbers ≡ bases_of level → place < length level → get_or numbers place 0 ≡ basis_of (get_or level place no_tableau).nonbasics
+pub basis_at : (level : List WholeTableau) (numbers : List ℕ) (place : ℕ) → numbers ≡ bases_of level → place < length level → get_or numbers place 0 ≡ basis_of (get_or level place no_tableau).nonbasics
 basis_at level numbers place e h = ap (λ xs. get_or xs place 0) e ∙ read level place h
   where
-    read : (ts : List Numbers) (i : ℕ) → i < length ts → get_or (bases_of ts) i 0 ≡ basis_of (get_or ts i no_tableau).nonbasics
+    read : (ts : List WholeTableau) (i : ℕ) → i < length ts → get_or (bases_of ts) i 0 ≡ basis_of (get_or ts i no_tableau).nonbasics
     read [] i h = absurd (omega arith)
     read (t ∷ ts) zero h = refl
     read (t ∷ ts) (suc i) h = read ts i (omega arith)
@@ -28,16 +28,16 @@ pub found_in_start : (known : List ℕ) → AreFoundIn [] known []
 found_in_start known = record { each = λ m c. absurd (omega (arith, c.1)); all = λ place h. absurd (omega arith) }
 
 -- one more tableau, and its pivots
-pub found_in_more : (level : List Numbers) (known : List ℕ) (pivots more : List FoundPivot) (t : Numbers) → AreFoundIn level known pivots → AreFound t (length level) known (length t.nonbasics) more → AreFoundIn (level ++ t ∷ []) known (pivots ++ more)
-found_in_more level known pivots more t f g =
+pub found_in_more : (level : List WholeTableau) (known : List ℕ) (found more : List FoundPivot) (t : WholeTableau) → AreFoundIn level known found → AreFound t (length level) known (length t.nonbasics) more → AreFoundIn (level ++ t ∷ []) known (found ++ more)
+found_in_more level known found more t f g =
     record {
-      each = λ m c. elim (Contains-append_cases pivots more m c) [
+      each = λ m c. elim (Contains-append_cases found more m c) [
         | inl a ↦ (let z = f.each m a in record { place = z.place; within = (let w : z.place < length level = z.within in omega (arith, size)); below = subst (λ u. IsFoundBelow u z.place known (length u.nonbasics) m) (sym (get_or_append_left level (t ∷ []) no_tableau z.place z.within)) z.below })
         | inr b ↦ record { place = length level; within = omega (arith, size); below = subst (λ u. IsFoundBelow u (length level) known (length u.nonbasics) m) (sym last) (g.each m b) }
       ];
       all = λ place h. elim (eq-or-lt_of_le (let l : place ≤ length level = omega (arith, size, h) in l)) [
-        | inr l ↦ subst (λ u. HasAllFound u place known (pivots ++ more)) (sym (get_or_append_left level (t ∷ []) no_tableau place l)) (λ column r k x new. let z = f.all place l column r k x new in (z.0, Contains-append_left pivots more z.0 z.1, z.2))
-        | inl e ↦ subst₂ (λ p u. HasAllFound u p known (pivots ++ more)) (sym e) (sym (ap (λ p. get_or (level ++ t ∷ []) p no_tableau) e ∙ last)) (λ column r k x new. let z = g.all column r k x new in (z.0, Contains-append_right pivots more z.0 z.1, z.2))
+        | inr l ↦ subst (λ u. HasAllFound u place known (found ++ more)) (sym (get_or_append_left level (t ∷ []) no_tableau place l)) (λ column r k x new. let z = f.all place l column r k x new in (z.0, Contains-append_left found more z.0 z.1, z.2))
+        | inl e ↦ subst₂ (λ p u. HasAllFound u p known (found ++ more)) (sym e) (sym (ap (λ p. get_or (level ++ t ∷ []) p no_tableau) e ∙ last)) (λ column r k x new. let z = g.all column r k x new in (z.0, Contains-append_right found more z.0 z.1, z.2))
       ];
     }
   where
@@ -47,12 +47,12 @@ found_in_more level known pivots more t f g =
     last : get_or (level ++ t ∷ []) (length level) no_tableau ≡ t
     last = get_or-append_seam level t [] no_tableau
 
-pub found_in_new : (level new : List Numbers) (known : List ℕ) (pivots more all : List FoundPivot) (t : Numbers) (n : ℕ) → length level ≡ n → new ≡ level ++ t ∷ [] → all ≡ pivots ++ more → AreFoundIn level known pivots → AreFound t n known (length t.nonbasics) more → AreFoundIn new known all
-found_in_new level new known pivots more all t n size pushed added f g = subst₂ (λ l a. AreFoundIn l known a) (sym pushed) (sym added) (found_in_more level known pivots more t f (subst (λ n. AreFound t n known (length t.nonbasics) more) (sym size) g))
+pub found_in_new : (level new : List WholeTableau) (known : List ℕ) (found more all : List FoundPivot) (t : WholeTableau) (n : ℕ) → length level ≡ n → new ≡ level ++ t ∷ [] → all ≡ found ++ more → AreFoundIn level known found → AreFound t n known (length t.nonbasics) more → AreFoundIn new known all
+found_in_new level new known found more all t n size pushed added f g = subst₂ (λ l a. AreFoundIn l known a) (sym pushed) (sym added) (found_in_more level known found more t f (subst (λ n. AreFound t n known (length t.nonbasics) more) (sym size) g))
 
 -- places and variables are numbers of 32 bits
-pub found_small : (level : List Numbers) (known : List ℕ) (pivots : List FoundPivot) → AreReady level → length level < 2 ^ 32 → AreFoundIn level known pivots → AreSmall pivots
-found_small level known pivots ready few f m c =
+pub found_small : (level : List WholeTableau) (known : List ℕ) (found : List FoundPivot) → AreReady level → length level < 2 ^ 32 → AreFoundIn level known found → AreSmall found
+found_small level known found ready few f m c =
     let z = f.each m c in
     let w : z.place < length level = z.within in
     let p : m.parent ≡ z.place = z.below.found.parent in
@@ -61,11 +61,11 @@ found_small level known pivots ready few f m c =
     let e : m.entering ≡ get_or (get_or level z.place no_tableau).nonbasics z.below.column 0 = z.below.found.entering in
     (omega arith, omega arith)
 
-pub new_pivots_are : (level : List Numbers) (known : List ℕ) (found next : List FoundPivot) → AreReady level → length level < 2 ^ 32 → AreFoundIn level known found → IsNextOf found next → AreNewPivots level known next
+pub new_pivots_are : (level : List WholeTableau) (known : List ℕ) (found next : List FoundPivot) → AreReady level → length level < 2 ^ 32 → AreFoundIn level known found → IsNextOf found next → AreNewPivots level known next
 new_pivots_are level known found next ready few f n = record { found = found; all = f; small = found_small level known found ready few f; firsts = n }
 
 -- ---- the pivots to the next level
-pub pivot_is : (level : List Numbers) (known : List ℕ) (m : FoundPivot) → IsFoundIn level known m → IsPivot level (pivot_of m)
+pub pivot_is : (level : List WholeTableau) (known : List ℕ) (m : FoundPivot) → IsFoundIn level known m → IsPivot level (pivot_of m)
 pivot_is level known m f =
     record {
       parent = subst (λ p. p < length level) (sym f.below.found.parent) f.within;
@@ -73,19 +73,19 @@ pivot_is level known m f =
       row = subst (λ p. IsLeavingRow (get_or level p no_tableau) m.column m.row) (sym f.below.found.parent) (subst (λ c. IsLeavingRow (get_or level f.place no_tableau) c m.row) (sym f.below.found.column) f.below.found.row);
     }
 
-pub target_is_there : (level : List Numbers) (known : List ℕ) (m : FoundPivot) → IsFoundIn level known m → m.target ≡ target level (pivot_of m)
+pub target_is_there : (level : List WholeTableau) (known : List ℕ) (m : FoundPivot) → IsFoundIn level known m → m.target ≡ target level (pivot_of m)
 target_is_there level known m f = f.below.found.target ∙ ap₂ (λ p c. neighbour_of (get_or level p no_tableau) m.row c) (sym f.below.found.parent) (sym f.below.found.column)
 
-pub entering_is : (level : List Numbers) (known : List ℕ) (m : FoundPivot) → IsFoundIn level known m → m.entering ≡ entering level (pivot_of m)
+pub entering_is : (level : List WholeTableau) (known : List ℕ) (m : FoundPivot) → IsFoundIn level known m → m.entering ≡ entering level (pivot_of m)
 entering_is level known m f = f.below.found.entering ∙ ap₂ (λ p c. get_or (get_or level p no_tableau).nonbasics c 0) (sym f.below.found.parent) (sym f.below.found.column)
 
 -- it is the parent and the column that count
-earlier_too : (level : List Numbers) (k j m : Pivot) → k.parent ≡ j.parent → k.column ≡ j.column → IsEarlierPivot level j m → IsEarlierPivot level k m
+earlier_too : (level : List WholeTableau) (k j m : Pivot) → k.parent ≡ j.parent → k.column ≡ j.column → IsEarlierPivot level j m → IsEarlierPivot level k m
 earlier_too level k j m p c (inl l) = inl (subst (λ x. x < m.parent) (sym p) l)
 earlier_too level k j m p c (inr q) = inr (p ∙ q.0, subst (λ x. x < entering level m) (ap₂ (λ a b. get_or (get_or level a no_tableau).nonbasics b 0) (sym p) (sym c)) q.1)
 
 -- what comes before in its level has a less order
-order_before : (level : List Numbers) (known : List ℕ) (k m : FoundPivot) → IsFoundIn level known k → IsFoundIn level known m → k.entering < 2 ^ 32 → order_of m ≤ order_of k → IsEarlierPivot level (pivot_of k) (pivot_of m) → ⊥
+order_before : (level : List WholeTableau) (known : List ℕ) (k m : FoundPivot) → IsFoundIn level known k → IsFoundIn level known m → k.entering < 2 ^ 32 → order_of m ≤ order_of k → IsEarlierPivot level (pivot_of k) (pivot_of m) → ⊥
 order_before level known k m fk fm small le (inl p) = omega arith
 order_before level known k m fk fm small le (inr p) =
     let a : k.entering ≡ entering level (pivot_of k) = entering_is level known k fk in
@@ -94,11 +94,11 @@ order_before level known k m fk fm small le (inr p) =
     let d : k.parent ≡ m.parent = p.0 in
     omega arith
 
-targets_same : (level : List Numbers) (known : List ℕ) (pivots : List FoundPivot) → ((m : FoundPivot) → Contains pivots m → IsFoundIn level known m) → map (target level) (map pivot_of pivots) ≡ map target_of pivots
+targets_same : (level : List WholeTableau) (known : List ℕ) (next : List FoundPivot) → ((m : FoundPivot) → Contains next m → IsFoundIn level known m) → map (target level) (map pivot_of next) ≡ map target_of next
 targets_same level known [] h = refl
 targets_same level known (m ∷ ms) h = ap₂ (λ x xs. x ∷ xs) (sym (target_is_there level known m (h m (first_in m ms)))) (targets_same level known ms (λ k c. h k (rest_in m k ms c)))
 
-found_of : (pivots : List FoundPivot) (m : Pivot) → Contains (map pivot_of pivots) m → (k : FoundPivot) × Contains pivots k × (pivot_of k ≡ m)
+found_of : (next : List FoundPivot) (m : Pivot) → Contains (map pivot_of next) m → (k : FoundPivot) × Contains next k × (pivot_of k ≡ m)
 found_of [] m c = absurd (omega (arith, c.1))
 found_of (k ∷ ks) m c = elim (in_cases (pivot_of k) m (map pivot_of ks) c) [ inl e ↦ (k, first_in k ks, e) | inr t ↦ (let z = found_of ks m t in (z.0, rest_in k z.0 ks z.1, z.2)) ]
 

@@ -5,7 +5,7 @@ use Rattle.std.proofs.lemmas.List.{get_or-set_same, get_or-set_other, get_or_def
 use Rattle.std.specs.List.{Contains}
 use Rattle.std.proofs.lemmas.List.Sums.{sum_by-set}
 use Rattle.linear_systems.specs.Reached.{in_row, in_column}
-use Rattle.lex_tableau.specs.Rows.{Numbers, IsTableau}
+use Rattle.lex_tableau.specs.Rows.{WholeTableau, IsTableau}
 use Rattle.basis_enum.specs.Bases.{digit, basis_of, neighbour_of, AreVariables, HaveDigits}
 use Rattle.basis_enum.proofs.DigitLemmas.{basis_below}
 
@@ -13,7 +13,7 @@ use Rattle.basis_enum.proofs.DigitLemmas.{basis_below}
 pub place_of : (xs : List ℕ) (v : ℕ) → Contains xs v → (i : ℕ) × (i < length xs) × (get_or xs i 0 ≡ v)
 place_of xs v c = (c.0, c.1, get_or_default xs c.0 0 v c.1 ∙ c.2)
 
-pub nonbasics_are : (t : Numbers) → IsTableau t → HaveDigits t → AreVariables t.nonbasics
+pub nonbasics_are : (t : WholeTableau) → IsTableau t → HaveDigits t → AreVariables t.nonbasics
 nonbasics_are t h d =
     record {
       above = λ v c. let p = place_of t.nonbasics v c in (d v (in_column p.0 p.1 p.2)).0;
@@ -25,7 +25,7 @@ nonbasics_are t h d =
 pub exchanged_at : (xs : List ℕ) (c x i : ℕ) → c < length xs → i < length xs → ((i ≡ c) × (get_or (slice_set xs c x) i 0 ≡ x)) ⊎ ((i ≢ c) × (get_or (slice_set xs c x) i 0 ≡ get_or xs i 0))
 exchanged_at xs c x i hc hi = elim (cases_eq i c) [ inl e ↦ inl (e, ap (λ k. get_or (slice_set xs c x) k 0) e ∙ get_or-set_same xs c x 0 hc) | inr ne ↦ inr (ne, get_or-set_other xs c i x 0 ne) ]
 
-pub exchanged_are : (t : Numbers) (r c : ℕ) → IsTableau t → HaveDigits t → r < length t.basics → c < length t.nonbasics → AreVariables (slice_set t.nonbasics c (get_or t.basics r 0))
+pub exchanged_are : (t : WholeTableau) (r c : ℕ) → IsTableau t → HaveDigits t → r < length t.basics → c < length t.nonbasics → AreVariables (slice_set t.nonbasics c (get_or t.basics r 0))
 exchanged_are t r c h d hr hc = record { above = λ v k. (bounds v k).0; most = λ v k. (bounds v k).1; once = once }
   where
     size : length (slice_set t.nonbasics c (get_or t.basics r 0)) ≡ length t.nonbasics
@@ -47,8 +47,8 @@ exchanged_are t r c h d hr hc = record { above = λ v k. (bounds v k).0; most = 
         go (inr a) (inr b) = h.reached.reached.proper.nonbasic_once i j (subst (λ n. i < n) size hi) (subst (λ n. j < n) size hj) (sym a.1 ∙ e ∙ b.1)
 
 -- the number of a neighbour
-pub neighbour_is : (t : Numbers) (r c : ℕ) → c < length t.nonbasics → neighbour_of t r c + digit (get_or t.nonbasics c 0) ≡ basis_of t.nonbasics + digit (get_or t.basics r 0)
+pub neighbour_is : (t : WholeTableau) (r c : ℕ) → c < length t.nonbasics → neighbour_of t r c + digit (get_or t.nonbasics c 0) ≡ basis_of t.nonbasics + digit (get_or t.basics r 0)
 neighbour_is t r c hc = sum_by-set digit t.nonbasics c (get_or t.basics r 0) 0 hc
 
-pub neighbour_below : (t : Numbers) (r c : ℕ) → IsTableau t → HaveDigits t → r < length t.basics → c < length t.nonbasics → neighbour_of t r c < 2 ^ 128
+pub neighbour_below : (t : WholeTableau) (r c : ℕ) → IsTableau t → HaveDigits t → r < length t.basics → c < length t.nonbasics → neighbour_of t r c < 2 ^ 128
 neighbour_below t r c h d hr hc = basis_below _ (exchanged_are t r c h d hr hc)

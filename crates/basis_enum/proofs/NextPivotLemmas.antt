@@ -5,7 +5,7 @@ use Rattle.std.specs.List.{Contains}
 use Rattle.std.proofs.lemmas.List.Elements.{Contains-get_or}
 use Rattle.linear_systems.proofs.LexRowLemmas.{lex_row_once}
 use Rattle.lex_tableau.specs.Ratio.{variable_at, IsLeavingRow}
-use Rattle.lex_tableau.specs.Rows.{Numbers, tableau, IsTableau}
+use Rattle.lex_tableau.specs.Rows.{WholeTableau, tableau, IsTableau}
 use Rattle.basis_enum.specs.Levels.{Levels, Pivot, no_tableau, parent_of, entering, target, IsPivot, IsEarlierPivot, AreNextPivots}
 use Rattle.basis_enum.proofs.AscendingNumberLemmas.{increasing_same, unmapped, told_by}
 
@@ -13,7 +13,7 @@ pivot_same : (m k : Pivot) → m.parent ≡ k.parent → m.row ≡ k.row → m.c
 pivot_same m k p r c = ap₂ (λ x y. record { parent = x; row = y; column = m.column }) p r ∙ ap (λ x. record { parent = k.parent; row = k.row; column = x }) c
 
 -- the column and the row are told by the parent and the entering variable
-pub pivot_by : (level : List Numbers) (m k : Pivot) → ((t : Numbers) → Contains level t → IsTableau t) → IsPivot level m → IsPivot level k → m.parent ≡ k.parent → entering level m ≡ entering level k → m ≡ k
+pub pivot_by : (level : List WholeTableau) (m k : Pivot) → ((t : WholeTableau) → Contains level t → IsTableau t) → IsPivot level m → IsPivot level k → m.parent ≡ k.parent → entering level m ≡ entering level k → m ≡ k
 pivot_by level m k valid hm hk p e = pivot_same m k p row column
   where
     parents : parent_of level m ≡ parent_of level k
@@ -31,14 +31,14 @@ pivot_by level m k valid hm hk p e = pivot_same m k p row column
         (subst (λ c. IsLeavingRow (parent_of level k) c m.row) column (subst (λ t. IsLeavingRow t m.column m.row) parents hm.row)) hk.row
 
 -- of two pivots one comes first, or they are one
-order : (level : List Numbers) (m k : Pivot) → IsEarlierPivot level m k ⊎ (((m.parent ≡ k.parent) × (entering level m ≡ entering level k)) ⊎ IsEarlierPivot level k m)
+order : (level : List WholeTableau) (m k : Pivot) → IsEarlierPivot level m k ⊎ (((m.parent ≡ k.parent) × (entering level m ≡ entering level k)) ⊎ IsEarlierPivot level k m)
 order level m k = elim (cases_order m.parent k.parent) [
   | inr (inl l) ↦ inl (inl l)
   | inr (inr l) ↦ inr (inr (inl l))
   | inl p ↦ elim (cases_order (entering level m) (entering level k)) [ inr (inl l) ↦ inl (inr (p, l)) | inr (inr l) ↦ inr (inr (inr (sym p, l))) | inl e ↦ inr (inl (p, e)) ]
 ]
 
-pub pivots_once : (l : Levels) (ms ns : List Pivot) → ((t : Numbers) → Contains l.level t → IsTableau t) → AreNextPivots l ms → AreNextPivots l ns → ms ≡ ns
+pub pivots_once : (l : Levels) (ms ns : List Pivot) → ((t : WholeTableau) → Contains l.level t → IsTableau t) → AreNextPivots l ms → AreNextPivots l ns → ms ≡ ns
 pivots_once l ms ns valid hm hn = told_by (target l.level) ms ns same (increasing_same _ _ hm.ascending hn.ascending (over ms ns hm hn) (over ns ms hn hm))
   where
     over : (ms ns : List Pivot) → AreNextPivots l ms → AreNextPivots l ns → (v : ℕ) → Contains (map (target l.level) ms) v → Contains (map (target l.level) ns) v

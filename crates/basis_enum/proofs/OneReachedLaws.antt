@@ -8,10 +8,10 @@ use Rattle.answers.proofs.AnswerLemmas.{bind-single, only-single, refuse_where-s
 use Rattle.frac128.proofs.FirstUnfitLemmas.{no_stop, same_stop}
 use Rattle.game_core.specs.Limits.{too_large, within}
 use Rattle.game_core.specs.declared.too_large.What.TheVariants as what
-use Rattle.lex_tableau.specs.Rows.{Numbers, IsTableau}
-use Rattle.lex_tableau.specs.Starts.{Parts}
+use Rattle.lex_tableau.specs.Rows.{WholeTableau, IsTableau}
+use Rattle.lex_tableau.specs.Starts.{LinearSystem}
 use Rattle.lex_tableau.specs.StartStops.{start_in}
-use Rattle.lex_tableau.proofs.TableauLemmas.{determined, alike_both}
+use Rattle.lex_tableau.proofs.TableauLemmas.{pivot_once}
 use Rattle.lex_tableau.proofs.SystemLemmas.{start_in-single}
 use Rattle.basis_enum.specs.Bases.{IsAscendingListOf}
 use Rattle.basis_enum.specs.Levels.{Levels, Pivot, AreNextPivots, IsAfterPivot, IsNextLevel, no_pivot, no_tableau, parent_of, entering, steps_of, basis_count, most_bases, first_level}
@@ -26,13 +26,13 @@ use Rattle.basis_enum.proofs.NextPivotLemmas.{pivots_once}
 levels_same : (l m : Levels) → l.before ≡ m.before → l.level ≡ m.level → l ≡ m
 levels_same l m p q = ap₂ (λ x y. record { before = x; level = y }) p q
 
-after_once : (level : List Numbers) (m : Pivot) (a b : Numbers) → IsAfterPivot level m a → IsAfterPivot level m b → a ≡ b
-after_once level m a b p q = determined a b p.is_tableau q.is_tableau (p.pivot.starts ∙ sym q.pivot.starts) (p.pivot.rated ∙ sym q.pivot.rated) (alike_both _ _ _ p.pivot.fractions q.pivot.fractions)
+after_once : (level : List WholeTableau) (m : Pivot) (a b : WholeTableau) → IsAfterPivot level m a → IsAfterPivot level m b → a ≡ b
+after_once level m a b p q = pivot_once (parent_of level m) a b m.row m.column p.is_tableau q.is_tableau p.pivot q.pivot
 
 tableaux_once : (p : Levels) (pivots : List Pivot) (l m : Levels) → IsNextLevel p pivots l → IsNextLevel p pivots m → l ≡ m
 tableaux_once p pivots l m h g = levels_same l m (h.before ∙ sym g.before) (same_lists l.level m.level (h.size ∙ sym g.size) each)
   where
-    each : (i : ℕ) (d : Numbers) → i < length l.level → get_or l.level i d ≡ get_or m.level i d
+    each : (i : ℕ) (d : WholeTableau) → i < length l.level → get_or l.level i d ≡ get_or m.level i d
     each i d w =
         let first : length l.level ≡ length pivots = h.size in
         let second : length m.level ≡ length pivots = g.size in
@@ -44,13 +44,13 @@ tableaux_once p pivots l m h g = levels_same l m (h.before ∙ sym g.before) (sa
 list_once : (vs xs ys : List ℕ) → IsAscendingListOf vs xs → IsAscendingListOf vs ys → xs ≡ ys
 list_once vs xs ys p q = increasing_same xs ys p.ascending q.ascending (λ v h. q.listed v (p.only v h)) (λ v h. p.listed v (q.only v h))
 
-told_once : (k : ℕ) (level : List Numbers) (pivots : List Pivot) (a b : EnumStop) → IsUnfitPivot k level pivots a → IsUnfitPivot k level pivots b → a ≡ b
+told_once : (k : ℕ) (level : List WholeTableau) (pivots : List Pivot) (a b : EnumStop) → IsUnfitPivot k level pivots a → IsUnfitPivot k level pivots b → a ≡ b
 told_once k level pivots a b h g =
     let same = same_stop (steps_of level) pivots h.pivot g.pivot h.step g.step h.first g.first in
     let lists : h.basis ≡ g.basis = list_once (parent_of level g.pivot).basics h.basis g.basis (subst (λ m. IsAscendingListOf (parent_of level m).basics h.basis) same.0 h.ascending) g.ascending in
     h.told ∙ ap (λ b. Range k b (entering level h.pivot) h.step) lists ∙ ap₂ (λ m step. Range k g.basis (entering level m) step) same.0 same.1 ∙ sym g.told
 
-pivots_fit-single : (k : ℕ) (level : List Numbers) (pivots : List Pivot) → IsSingle (pivots_fit k level pivots)
+pivots_fit-single : (k : ℕ) (level : List WholeTableau) (pivots : List Pivot) → IsSingle (pivots_fit k level pivots)
 pivots_fit-single k level pivots (Ok _) (Ok _) h g = refl
 pivots_fit-single k level pivots (Ok _) (Err stop) h g = absurd (no_stop (steps_of level) pivots g.pivot g.step g.first h)
 pivots_fit-single k level pivots (Err stop) (Ok _) h g = absurd (no_stop (steps_of level) pivots h.pivot h.step h.first g)
@@ -70,7 +70,7 @@ module _ (k : ℕ) (l : Levels) where
   abbrev AreSomeNext : List Pivot → Type 0
   AreSomeNext pivots = AreNextPivots l pivots × (0 < length pivots)
 
-  module _ (valid : (t : Numbers) → Contains l.level t → IsTableau t) where
+  module _ (valid : (t : WholeTableau) → Contains l.level t → IsTableau t) where
     next_level-single : IsSingle (next_level k l)
     next_level-single =
         bind-single (next_pivots l) from_count (such_that-single AreSomeNext (λ a b h g. pivots_once l a b valid h.0 g.0))
@@ -86,7 +86,7 @@ module _ (k : ℕ) (l : Levels) where
     none_next none (Err r) (inr (pivots, (are, some), _)) =
         let c : 0 ≡ length pivots = ap length (pivots_once l [] pivots valid none are) in omega arith
 
-module _ (s : Parts) where
+module _ (s : LinearSystem) where
   level_of-single : (k : ℕ) → IsSingle (level_of s k)
   level_of-single zero =
       bind-single (refused_by told_start (start_in s)) (λ start. only (first_level start)) (refused_by-single told_start (start_in s) (start_in-single s)) (λ start _. only-single (first_level start))
@@ -127,14 +127,14 @@ module _ (s : Parts) where
     ]
 
   -- ---- what is reached
-  lists_once : (a b : List Numbers) → AreReached s a → AreReached s b → a ≡ b
+  lists_once : (a b : List WholeTableau) → AreReached s a → AreReached s b → a ≡ b
   lists_once a b h g = elim (cases_order h.number g.number) [
     | inl same ↦ h.all ∙ ap (λ (l : Levels). l.before ++ l.level) (single-value (level_of s h.number) h.levels g.levels (level_of-single h.number) h.is_level (subst (λ i. level_of s i (Ok g.levels)) (sym same) g.is_level)) ∙ sym g.all
     | inr (inl l) ↦ absurd (nothing_after h.number h.levels h.is_level h.none g.number l (Ok g.levels) g.is_level)
     | inr (inr l) ↦ absurd (nothing_after g.number g.levels g.is_level g.none h.number l (Ok h.levels) h.is_level)
   ]
 
-  no_both : (a : List Numbers) (r : EnumStop) → AreReached s a → (k : ℕ) → level_of s k (Err r) → ⊥
+  no_both : (a : List WholeTableau) (r : EnumStop) → AreReached s a → (k : ℕ) → level_of s k (Err r) → ⊥
   no_both a r h k g = elim (cases_lt h.number k) [
     | inl l ↦ nothing_after h.number h.levels h.is_level h.none k l (Err r) g
     | inr l ↦ single-exclude (level_of s h.number) h.levels r (level_of-single h.number) h.is_level (refused_later k h.number r g l)

@@ -11,8 +11,8 @@ use Rattle.linear_systems.specs.Rows.{basic_solution}
 use Rattle.linear_systems.specs.ExtremePointLaws.{HasPoint}
 use Rattle.linear_systems.specs.Vertices.{MarkedPoint, IsVertexMark}
 use Rattle.linear_systems.proofs.VertexListLemmas.{same_mask, place_once}
-use Rattle.lex_tableau.specs.Rows.{Numbers, tableau}
-use Rattle.lex_tableau.specs.Starts.{Parts, system_of, IsSystem}
+use Rattle.lex_tableau.specs.Rows.{WholeTableau, tableau}
+use Rattle.lex_tableau.specs.Starts.{LinearSystem, system_of, IsSystem}
 use Rattle.basis_enum.specs.Systems.{variable_count, IsEnumerable}
 use Rattle.basis_enum.specs.Levels.{no_tableau}
 use Rattle.basis_enum.proofs.CompleteLevelLaws.{complete_cover}
@@ -31,8 +31,8 @@ some_equal q xs P h e =
 apart : (a b : ℕ) → (a ≡ b → ⊥) → eqb a b ≡ false
 apart a b h = grind (arith, tests)
 
-module _ (s : Parts) (v : VertexList) (valid : IsSystem s) (enumerable : IsEnumerable s) (h : vertices_in s (Ok v)) where
-  abbrev reached : List Numbers
+module _ (s : LinearSystem) (v : VertexList) (valid : IsSystem s) (enumerable : IsEnumerable s) (h : vertices_in s (Ok v)) where
+  abbrev reached : List WholeTableau
   reached = h.0
 
   abbrev none : MarkedPoint

@@ -13,9 +13,9 @@ use Rattle.std.proofs.lemmas.List.Sorted.{IsPermutation-map, IsPermutation-sym, 
 use Rattle.rational.specs.Rational.{ℚ, zero_ℚ}
 use Rattle.linear_systems.specs.Tableau.{Tableau}
 use Rattle.linear_systems.specs.Reached.{IsVariableOf, in_row, in_column}
-use Rattle.lex_tableau.specs.Rows.{Numbers, tableau}
-use Rattle.lex_tableau.specs.Starts.{Parts, system_of, IsSystem}
-use Rattle.linear_systems.specs.Points.{IsExtremePoint, IsNonzero, AreEqualAt}
+use Rattle.lex_tableau.specs.Rows.{WholeTableau, tableau}
+use Rattle.lex_tableau.specs.Starts.{LinearSystem, system_of, IsSystem}
+use Rattle.linear_systems.specs.Points.{IsExtremePoint, IsNonzeroAt, AreEqualAt}
 use Rattle.linear_systems.specs.Rows.{basic_solution}
 use Rattle.linear_systems.specs.Reach.{IsLexReached}
 use Rattle.linear_systems.specs.Vertices.{MarkedPoint, IsZeroWord, IsMarkOf, IsVertexMark, AreVertices, mask_of}
@@ -31,19 +31,19 @@ use Rattle.basis_enum.proofs.MaskLemmas.{low_word, high_word}
 use Rattle.basis_enum.proofs.OrderLemmas.{is_tie, dedup_ascends, dedup_keeps, map-dedup, IsNonDecreasingBy-map}
 
 -- the basic variables of a reached tableau are among the variables of the system
-pub reached_numbered : (s : Parts) (t : Numbers) → IsEnumerable s
+pub reached_numbered : (s : LinearSystem) (t : WholeTableau) → IsEnumerable s
     → IsLexReached 129 (system_of s) (tableau t) → AreUpTo (variable_count s) t.basics
 reached_numbered s t e r = λ k d h.
     (e.numbered (get_or t.basics k d)).0
     (r.variables (get_or t.basics k d) (in_row k h (get_or_default t.basics k 0 d h)))
 
 -- so are the system's nonbasic variables
-pub nonbasics_numbered : (s : Parts) → IsEnumerable s → AreUpTo (variable_count s) s.nonbasics
+pub nonbasics_numbered : (s : LinearSystem) → IsEnumerable s → AreUpTo (variable_count s) s.nonbasics
 nonbasics_numbered s e = λ k d h.
     (e.numbered (get_or s.nonbasics k d)).0 (in_column k h (get_or_default s.nonbasics k 0 d h))
 
 -- ---- the vertex of one tableau
-pub vertex_is : (s : Parts) (t : Numbers) (v : Vertex) (word : ℕ)
+pub vertex_is : (s : LinearSystem) (t : WholeTableau) (v : Vertex) (word : ℕ)
     → IsZeroWord (variable_count s) (λ l. basic_solution (tableau t) (suc l)) word
     → get_or v.mask 0 0 ≡ word % 2 ^ 64 → get_or v.mask 1 0 ≡ word / 2 ^ 64
     → v.point.items ≡ map (basic_solution (tableau t)) s.nonbasics
@@ -67,34 +67,34 @@ vertex_is s t v word zeros low high values any = (
     value : (j : ℕ) (d : ℚ) → j < length s.nonbasics → get_or v.point.items j d ≡ x (get_or s.nonbasics j 0)
     value j d h = ap (λ xs. get_or xs j d) values ∙ get_or-map x s.nonbasics j 0 d h
 
-    nonzero : IsNonzero (system_of s) (basic_solution (tableau t))
+    nonzero : IsNonzeroAt (system_of s) (basic_solution (tableau t))
     nonzero =
         let size : length v.point.items ≡ length s.nonbasics = ap length values ∙ length-map s.nonbasics x in
         let within : any.0 < length v.point.items = any.2 in
         record {
-          column = any.0;
+          place = any.0;
           within = omega arith;
-          other = λ e. any.4 (sym any.3 ∙ value any.0 any.1 (omega arith) ∙ e);
+          differs = λ e. any.4 (sym any.3 ∙ value any.0 any.1 (omega arith) ∙ e);
         }
 
-pub vertex_none : (s : Parts) (t : Numbers) (values : List ℚ)
+pub vertex_none : (s : LinearSystem) (t : WholeTableau) (values : List ℚ)
     → values ≡ map (basic_solution (tableau t)) s.nonbasics → All (λ q. q ≡ zero_ℚ) values
     → IsVertexOf s t None
 vertex_none s t values e all p =
-    p.other (sym (ap (λ xs. get_or xs p.column zero_ℚ) e ∙ get_or-map (basic_solution (tableau t)) s.nonbasics p.column 0 zero_ℚ p.within)
-    ∙ all p.column zero_ℚ (let size : length values ≡ length s.nonbasics = ap length e ∙ length-map s.nonbasics (basic_solution (tableau t)) in let w : p.column < length s.nonbasics = p.within in omega arith))
+    p.differs (sym (ap (λ xs. get_or xs p.place zero_ℚ) e ∙ get_or-map (basic_solution (tableau t)) s.nonbasics p.place 0 zero_ℚ p.within)
+    ∙ all p.place zero_ℚ (let size : length values ≡ length s.nonbasics = ap length e ∙ length-map s.nonbasics (basic_solution (tableau t)) in let w : p.place < length s.nonbasics = p.within in omega arith))
 
 -- ---- the vertices of all tableaux, one after another
-pub no_marks : (s : Parts) → AreMarksOf s [] []
+pub no_marks : (s : LinearSystem) → AreMarksOf s [] []
 no_marks s =
     record { each = λ m c. absurd (omega (arith, c.1)); all = λ t c h. absurd (omega (arith, c.1)) }
 
-in_more : (s : Parts) (ts : List Numbers) (t : Numbers) (m : MarkedPoint) → IsMarkIn s ts m
+in_more : (s : LinearSystem) (ts : List WholeTableau) (t : WholeTableau) (m : MarkedPoint) → IsMarkIn s ts m
     → IsMarkIn s (ts ++ t ∷ []) m
 in_more s ts t m k =
     record { of = k.of; among = Contains-append_left ts (t ∷ []) k.of k.among; nonzero = k.nonzero; marked = k.marked }
 
-pub marks_more : (s : Parts) (ts : List Numbers) (t : Numbers) (old : List MarkedPoint)
+pub marks_more : (s : LinearSystem) (ts : List WholeTableau) (t : WholeTableau) (old : List MarkedPoint)
     (vertex : Option Vertex) → AreMarksOf s ts old → IsVertexOf s t vertex
     → AreMarksOf s (ts ++ t ∷ []) (old ++ marks_of (option_to_list vertex))
 marks_more s ts t old None h none =
@@ -103,7 +103,7 @@ marks_more s ts t old None h none =
       each = λ m c. in_more s ts t m (h.each m c);
       all = λ u c p. elim (Contains-push_cases ts t u c) [
         | inl k ↦ h.all u k p
-        | inr e ↦ absurd (none (subst (λ u. IsNonzero (system_of s) (basic_solution (tableau u))) (sym e) p))
+        | inr e ↦ absurd (none (subst (λ u. IsNonzeroAt (system_of s) (basic_solution (tableau u))) (sym e) p))
       ];
     })
 marks_more s ts t old (Some v) h is =
@@ -184,7 +184,7 @@ mark_of_equal n s x y a e f h =
         }
 
 -- a mark with the mask of an equal extreme point is that of the point
-mark_by_mask : (s : Parts) (x y z : ℕ → ℚ) (a b : MarkedPoint) → IsEnumerable s
+mark_by_mask : (s : LinearSystem) (x y z : ℕ → ℚ) (a b : MarkedPoint) → IsEnumerable s
     → IsExtremePoint (system_of s) y → IsExtremePoint (system_of s) z
     → AreEqualAt (system_of s) x y → IsMarkOf (variable_count s) (system_of s) y a
     → IsMarkOf (variable_count s) (system_of s) z b → mask_of a ≡ mask_of b
@@ -201,16 +201,16 @@ mark_by_mask s x y z a b e hy hz same p q masks =
     all : AreEqualAt (system_of s) x z
     all v w = same v w ∙ extreme_alone (system_of s) y z hy hz.point zeros v w
 
-nonzero_equal : (s : Tableau) (x y : ℕ → ℚ) → AreEqualAt s x y → IsNonzero s x → IsNonzero s y
+nonzero_equal : (s : Tableau) (x y : ℕ → ℚ) → AreEqualAt s x y → IsNonzeroAt s x → IsNonzeroAt s y
 nonzero_equal s x y e h =
     record {
-      column = h.column;
+      place = h.place;
       within = h.within;
-      other = λ z. h.other (e (s.nonbasic h.column) (in_column h.column h.within refl) ∙ z);
+      differs = λ z. h.differs (e (s.nonbasic h.place) (in_column h.place h.within refl) ∙ z);
     }
 
 -- ---- the marks of all reached tableaux, sorted, are the vertices
-extreme_in : (s : Parts) (ts : List Numbers) (t : Numbers) → IsSystem s → IsEnumerable s
+extreme_in : (s : LinearSystem) (ts : List WholeTableau) (t : WholeTableau) → IsSystem s → IsEnumerable s
     → reached_in s (Ok ts) → Contains ts t
     → IsExtremePoint (system_of s) (basic_solution (tableau t))
 extreme_in s ts t h e end c =
@@ -218,7 +218,7 @@ extreme_in s ts t h e end c =
     (get_or_default ts c.0 no_tableau t c.1 ∙ c.2)
     (complete_extreme s ts c.0 h e end c.1)
 
-pub are_vertices : (s : Parts) (ts : List Numbers) (marks list : List MarkedPoint) → IsSystem s
+pub are_vertices : (s : LinearSystem) (ts : List WholeTableau) (marks list : List MarkedPoint) → IsSystem s
     → IsEnumerable s → reached_in s (Ok ts) → AreMarksOf s ts marks → AreSortedOnce marks list
     → AreVertices (variable_count s) (system_of s) list
 are_vertices s ts marks list h e end noted order =
@@ -240,8 +240,8 @@ are_vertices s ts marks list h e end noted order =
           marked = k.marked;
         }
 
-    found : (x : ℕ → ℚ) (t : Numbers) → Contains ts t
-        → AreEqualAt (system_of s) x (basic_solution (tableau t)) → IsNonzero (system_of s) x
+    found : (x : ℕ → ℚ) (t : WholeTableau) → Contains ts t
+        → AreEqualAt (system_of s) x (basic_solution (tableau t)) → IsNonzeroAt (system_of s) x
         → (m : MarkedPoint) × Contains list m × IsMarkOf (variable_count s) (system_of s) x m
     found x t among same o =
         let a = noted.all t among (nonzero_equal (system_of s) x (basic_solution (tableau t)) same o) in

@@ -4,7 +4,7 @@ use Rattle.std.specs.Prelude.{ℕ, ◌↔◌, ◌-◌, ◌^◌, ◌<◌, ◌≤�
 use Rattle.std.specs.List.{Contains, sum_by}
 use Rattle.std.specs.List.Sorted.{IsStrictlyIncreasing}
 use Rattle.linear_systems.specs.Reached.{IsVariableOf}
-use Rattle.lex_tableau.specs.Rows.{Numbers, tableau}
+use Rattle.lex_tableau.specs.Rows.{WholeTableau, tableau}
 
 -- what the digit of variable v counts
 abbrev pub digit : ℕ → ℕ
@@ -15,7 +15,7 @@ abbrev pub basis_of : List ℕ → ℕ
 basis_of nonbasics = sum_by digit nonbasics
 
 -- the basis after the variables of a row and a column have changed places
-abbrev pub neighbour_of : Numbers → ℕ → ℕ → ℕ
+abbrev pub neighbour_of : WholeTableau → ℕ → ℕ → ℕ
 neighbour_of t row column = basis_of (slice_set t.nonbasics column (get_or t.basics row 0))
 
 -- variables that have digits, each once
@@ -26,7 +26,7 @@ pub record AreVariables (variables : List ℕ) : Type 0 where
       → get_or variables i 0 ≡ get_or variables j 0 → i ≡ j
 
 -- the variables of a tableau have digits
-abbrev pub HaveDigits : Numbers → Type 0
+abbrev pub HaveDigits : WholeTableau → Type 0
 HaveDigits t = (v : ℕ) → IsVariableOf (tableau t) v → (0 < v) × (v ≤ 128)
 
 -- v is the first variable in which the two differ, and it is basic where the nonbasic ones are xs:

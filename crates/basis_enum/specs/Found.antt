@@ -1,20 +1,20 @@
 -- The pivots that are found from a level, to bases that are not known
 use Rattle.std.specs.Prelude.{ℕ, ◌^◌, ◌<◌, ◌≡◌, ◌++◌, List, length, get_or}
 use Rattle.std.specs.List.{Contains}
-use Rattle.lex_tableau.specs.Rows.{Numbers, IsTableau}
+use Rattle.lex_tableau.specs.Rows.{WholeTableau, IsTableau}
 use Rattle.basis_enum.specs.Bases.{neighbour_of, HaveDigits}
 use Rattle.basis_enum.specs.Levels.{Levels, no_tableau, bases_of}
 use Rattle.lex_tableau.specs.Ratio.{IsLeavingRow}
 use Rattle.basis_enum.specs.declared.found_pivots.FoundPivot.{FoundPivot}
 
 -- all rows are rated, and rows and columns have numbers of 32 bits
-pub record IsWhole (t : Numbers) : Type 0 where
+pub record IsWhole (t : WholeTableau) : Type 0 where
   pub rated : t.rated ≡ length t.basics
   pub rows : length t.basics < 2 ^ 32
   pub columns : length t.nonbasics < 2 ^ 32
 
 -- the pivot from t on the lexicographic row of the column, to a basis that is not known
-pub record IsFound (t : Numbers) (place : ℕ) (known : List ℕ) (col : ℕ) (p : FoundPivot)
+pub record IsFound (t : WholeTableau) (place : ℕ) (known : List ℕ) (col : ℕ) (p : FoundPivot)
     : Type 0 where
   pub parent : p.parent ≡ place
   pub column : p.column ≡ col
@@ -24,56 +24,56 @@ pub record IsFound (t : Numbers) (place : ℕ) (known : List ℕ) (col : ℕ) (p
   pub new : ¬ (Contains known p.target)
 
 -- the pivot in this column, where there is one, leads to a known basis
-pub record HasNone (t : Numbers) (known : List ℕ) (column : ℕ) : Type 0 where
+pub record HasNone (t : WholeTableau) (known : List ℕ) (column : ℕ) : Type 0 where
   pub leads_back : (r : ℕ) → IsLeavingRow t column r → Contains known (neighbour_of t r column)
 
 -- among these is the pivot in this column
-abbrev pub HasFound : Numbers → ℕ → List ℕ → List FoundPivot → ℕ → Type 0
-HasFound t place known pivots column =
-    (p : FoundPivot) × Contains pivots p × IsFound t place known column p
+abbrev pub HasFound : WholeTableau → ℕ → List ℕ → List FoundPivot → ℕ → Type 0
+HasFound t place known found column =
+    (p : FoundPivot) × Contains found p × IsFound t place known column p
 
 -- a column below the bound, with such a pivot
-pub record IsFoundBelow (t : Numbers) (place : ℕ) (known : List ℕ) (bound : ℕ) (p : FoundPivot)
+pub record IsFoundBelow (t : WholeTableau) (place : ℕ) (known : List ℕ) (bound : ℕ) (p : FoundPivot)
     : Type 0 where
   pub column : ℕ
   pub within : column < bound
   pub found : IsFound t place known column p
 
 -- of each column below the bound the pivot is there, or leads to a known basis
-pub record AreFound (t : Numbers) (place : ℕ) (known : List ℕ) (bound : ℕ)
-    (pivots : List FoundPivot) : Type 0 where
-  pub each : (p : FoundPivot) → Contains pivots p → IsFoundBelow t place known bound p
+pub record AreFound (t : WholeTableau) (place : ℕ) (known : List ℕ) (bound : ℕ)
+    (found : List FoundPivot) : Type 0 where
+  pub each : (p : FoundPivot) → Contains found p → IsFoundBelow t place known bound p
   pub all : (column r : ℕ) → column < bound → IsLeavingRow t column r
-      → ¬ (Contains known (neighbour_of t r column)) → HasFound t place known pivots column
+      → ¬ (Contains known (neighbour_of t r column)) → HasFound t place known found column
 
 -- of each of its columns the pivot is among these, or leads to a known basis
-abbrev pub HasAllFound : Numbers → ℕ → List ℕ → List FoundPivot → Type 0
-HasAllFound t place known pivots =
+abbrev pub HasAllFound : WholeTableau → ℕ → List ℕ → List FoundPivot → Type 0
+HasAllFound t place known found =
     (column r : ℕ) → column < length t.nonbasics → IsLeavingRow t column r
-    → ¬ (Contains known (neighbour_of t r column)) → HasFound t place known pivots column
+    → ¬ (Contains known (neighbour_of t r column)) → HasFound t place known found column
 
 -- a tableau of the level and a column, with such a pivot
-pub record IsFoundIn (level : List Numbers) (known : List ℕ) (p : FoundPivot) : Type 0 where
+pub record IsFoundIn (level : List WholeTableau) (known : List ℕ) (p : FoundPivot) : Type 0 where
   pub place : ℕ
   pub within : place < length level
   pub below : IsFoundBelow (get_or level place no_tableau) place known
       (length (get_or level place no_tableau).nonbasics) p
 
 -- the pivots from the level that lead to new bases
-pub record AreFoundIn (level : List Numbers) (known : List ℕ) (pivots : List FoundPivot)
+pub record AreFoundIn (level : List WholeTableau) (known : List ℕ) (found : List FoundPivot)
     : Type 0 where
-  pub each : (p : FoundPivot) → Contains pivots p → IsFoundIn level known p
+  pub each : (p : FoundPivot) → Contains found p → IsFoundIn level known p
   pub all : (place : ℕ) → place < length level
-      → HasAllFound (get_or level place no_tableau) place known pivots
+      → HasAllFound (get_or level place no_tableau) place known found
 
 -- a tableau whose pivots can be found
-pub record IsReady (t : Numbers) : Type 0 where
+pub record IsReady (t : WholeTableau) : Type 0 where
   pub is_tableau : IsTableau t
   pub digits : HaveDigits t
   pub whole : IsWhole t
 
 -- each of these can be
-abbrev pub AreReady : List Numbers → Type 0
+abbrev pub AreReady : List WholeTableau → Type 0
 AreReady level = (i : ℕ) → i < length level → IsReady (get_or level i no_tableau)
 
 -- the bases that are known are those of the levels

@@ -5,8 +5,8 @@ use Rattle.rational.specs.Rational.{ℚ}
 use Rattle.linear_systems.specs.Points.{IsExtremePoint}
 use Rattle.linear_systems.specs.Rows.{basic_solution}
 use Rattle.linear_systems.specs.ExtremePointLaws.{HasPoint}
-use Rattle.lex_tableau.specs.Rows.{Numbers, tableau}
-use Rattle.lex_tableau.specs.Starts.{Parts, system_of, IsSystem}
+use Rattle.lex_tableau.specs.Rows.{WholeTableau, tableau}
+use Rattle.lex_tableau.specs.Starts.{LinearSystem, system_of, IsSystem}
 use Rattle.basis_enum.specs.Bases.{basis_of, AreVariables, ComesFirst}
 use Rattle.basis_enum.specs.Levels.{no_tableau}
 use Rattle.basis_enum.specs.Systems.{IsEnumerable}
@@ -15,14 +15,14 @@ use Rattle.basis_enum.specs.Reached.{reached_in}
 -- Each extreme point is the basic solution of a reached tableau, degenerate ones too, ..
 abbrev pub CompleteLevelsCover : Type 0
 CompleteLevelsCover =
-    (s : Parts) (ts : List Numbers) (p : ℕ → ℚ) → IsSystem s → IsEnumerable s
+    (s : LinearSystem) (ts : List WholeTableau) (p : ℕ → ℚ) → IsSystem s → IsEnumerable s
     → reached_in s (Ok ts) → IsExtremePoint (system_of s) p
     → HasPoint (system_of s) (length ts) (λ k. tableau (get_or ts k no_tableau)) p
 
 -- .. and the basic solutions are extreme points.
 abbrev pub CompleteLevelsAreExtreme : Type 0
 CompleteLevelsAreExtreme =
-    (s : Parts) (ts : List Numbers) (k : ℕ) → IsSystem s → IsEnumerable s
+    (s : LinearSystem) (ts : List WholeTableau) (k : ℕ) → IsSystem s → IsEnumerable s
     → reached_in s (Ok ts) → k < length ts
     → IsExtremePoint (system_of s) (basic_solution (tableau (get_or ts k no_tableau)))
 

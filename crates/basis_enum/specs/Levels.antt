@@ -4,7 +4,7 @@ use Rattle.std.specs.List.{Contains}
 use Rattle.std.specs.List.Sorted.{IsStrictlyIncreasing}
 use Rattle.frac128.specs.Steps.{Step}
 use Rattle.lex_tableau.specs.Ratio.{IsLeavingRow}
-use Rattle.lex_tableau.specs.Rows.{Numbers, IsTableau, IsPivotOf}
+use Rattle.lex_tableau.specs.Rows.{WholeTableau, IsTableau, IsPivotOf}
 use Rattle.lex_tableau.specs.Pivots.{steps_of_pivot}
 use Rattle.basis_enum.specs.Bases.{basis_of, neighbour_of}
 
@@ -19,39 +19,39 @@ abbrev pub no_pivot : Pivot
 no_pivot = record { parent = 0; row = 0; column = 0 }
 
 -- what a read past the end of a list of tableaux gives
-abbrev pub no_tableau : Numbers
+abbrev pub no_tableau : WholeTableau
 no_tableau = record { starts = []; basics = []; nonbasics = []; rated = 0; numbers = [] }
 
 -- the tableau from which a pivot goes
-abbrev pub parent_of : List Numbers → Pivot → Numbers
+abbrev pub parent_of : List WholeTableau → Pivot → WholeTableau
 parent_of level p = get_or level p.parent no_tableau
 
 -- the variable that enters
-abbrev pub entering : List Numbers → Pivot → ℕ
+abbrev pub entering : List WholeTableau → Pivot → ℕ
 entering level p = get_or (parent_of level p).nonbasics p.column 0
 
 -- the basis to which it leads
-abbrev pub target : List Numbers → Pivot → ℕ
+abbrev pub target : List WholeTableau → Pivot → ℕ
 target level p = neighbour_of (parent_of level p) p.row p.column
 
 -- a pivot of a tableau of the level on the lexicographic row of a column
-pub record IsPivot (level : List Numbers) (p : Pivot) : Type 0 where
+pub record IsPivot (level : List WholeTableau) (p : Pivot) : Type 0 where
   pub parent : p.parent < length level
   pub column : p.column < length (parent_of level p).nonbasics
   pub row : IsLeavingRow (parent_of level p) p.column p.row
 
 -- by the parent's place in the level, and then by the entering variable
-abbrev pub IsEarlierPivot : List Numbers → Pivot → Pivot → Type 0
+abbrev pub IsEarlierPivot : List WholeTableau → Pivot → Pivot → Type 0
 IsEarlierPivot level p q =
     (p.parent < q.parent) ⊎ ((p.parent ≡ q.parent) × (entering level p < entering level q))
 
 -- a level, and those before it
 pub record Levels : Type 0 where
-  pub before : List Numbers
-  pub level : List Numbers
+  pub before : List WholeTableau
+  pub level : List WholeTableau
 
 -- the bases of these tableaux
-abbrev pub bases_of : List Numbers → List ℕ
+abbrev pub bases_of : List WholeTableau → List ℕ
 bases_of ts = map (λ t. basis_of t.nonbasics) ts
 
 -- a basis that no level has so far
@@ -70,7 +70,7 @@ pub record AreNextPivots (l : Levels) (pivots : List Pivot) : Type 0 where
       → target l.level q ≡ target l.level p → ¬ (IsEarlierPivot l.level q p)
 
 -- the steps of a pivot
-abbrev pub steps_of : List Numbers → Pivot → List Step
+abbrev pub steps_of : List WholeTableau → Pivot → List Step
 steps_of level p = steps_of_pivot (parent_of level p) p.row p.column
 
 -- how many bases the levels and these pivots have
@@ -82,12 +82,12 @@ abbrev pub most_bases : ℕ
 most_bases = 20000
 
 -- new is the tableau after the pivot
-pub record IsAfterPivot (level : List Numbers) (p : Pivot) (new : Numbers) : Type 0 where
+pub record IsAfterPivot (level : List WholeTableau) (p : Pivot) (new : WholeTableau) : Type 0 where
   pub is_tableau : IsTableau new
   pub pivot : IsPivotOf (parent_of level p) p.row p.column new
 
 -- level 0, of the start alone
-abbrev pub first_level : Numbers → Levels
+abbrev pub first_level : WholeTableau → Levels
 first_level start = record { before = []; level = start ∷ [] }
 
 -- l has the level after p: the tableaux after these pivots

@@ -2,9 +2,9 @@
 use Rattle.std.specs.Prelude.{ℕ, suc, ◌<◌, ◌≤◌, ◌≡◌, ◌≢◌, List, length, get_or, map, Option, Some, None}
 use Rattle.std.specs.List.{All, Contains}
 use Rattle.rational.specs.Rational.{ℚ}
-use Rattle.lex_tableau.specs.Rows.{Numbers, tableau}
-use Rattle.lex_tableau.specs.Starts.{Parts, system_of}
-use Rattle.linear_systems.specs.Points.{IsNonzero}
+use Rattle.lex_tableau.specs.Rows.{WholeTableau, tableau}
+use Rattle.lex_tableau.specs.Starts.{LinearSystem, system_of}
+use Rattle.linear_systems.specs.Points.{IsNonzeroAt}
 use Rattle.linear_systems.specs.Rows.{basic_solution}
 use Rattle.linear_systems.specs.Vertices.{MarkedPoint, IsMarkOf, mask_of}
 use Rattle.basis_enum.specs.declared.vertex.Vertex.{Vertex}
@@ -16,38 +16,39 @@ abbrev pub AreUpTo : ℕ → List ℕ → Type 0
 AreUpTo n variables = All (λ v. (0 < v) × (v ≤ n)) variables
 
 -- the row of the first n in which variable v is basic, or none
-abbrev pub IsRowTo : Numbers → ℕ → ℕ → Option ℕ → Type 0
+abbrev pub IsRowTo : WholeTableau → ℕ → ℕ → Option ℕ → Type 0
 IsRowTo t n v None = (i : ℕ) → i < n → get_or t.basics i 0 ≢ v
 IsRowTo t n v (Some row) = (row < n) × (get_or t.basics row 0 ≡ v)
 
 -- that of each variable up to 128, for variable v at place v - 1
-pub record AreRowsTo (t : Numbers) (n : ℕ) (rows : List (Option ℕ)) : Type 0 where
+pub record AreRowsTo (t : WholeTableau) (n : ℕ) (rows : List (Option ℕ)) : Type 0 where
   pub size : length rows ≡ 128
   pub each : (l : ℕ) → l < 128 → IsRowTo t n (suc l) (get_or rows l None)
 
 -- the values of variables in the basic solution
-abbrev pub values_of : Numbers → List ℕ → List ℚ
+abbrev pub values_of : WholeTableau → List ℕ → List ℚ
 values_of t variables = map (basic_solution (tableau t)) variables
 
 -- the vertex that is the basic solution of t, or none, where that is zero at the system's nonbasic
 -- variables
-abbrev pub IsVertexOf : Parts → Numbers → Option Vertex → Type 0
-IsVertexOf s t None = IsNonzero (system_of s) (basic_solution (tableau t)) → ⊥
-IsVertexOf s t (Some v) = IsNonzero (system_of s) (basic_solution (tableau t))
+abbrev pub IsVertexOf : LinearSystem → WholeTableau → Option Vertex → Type 0
+IsVertexOf s t None = IsNonzeroAt (system_of s) (basic_solution (tableau t)) → ⊥
+IsVertexOf s t (Some v) = IsNonzeroAt (system_of s) (basic_solution (tableau t))
     × IsMarkOf (variable_count s) (system_of s) (basic_solution (tableau t)) (mark_of v)
 
 -- the mark is that of the basic solution of one of the tableaux, which is not zero
-pub record IsMarkIn (s : Parts) (ts : List Numbers) (mark : MarkedPoint) : Type 0 where
-  pub of : Numbers
+pub record IsMarkIn (s : LinearSystem) (ts : List WholeTableau) (mark : MarkedPoint) : Type 0 where
+  pub of : WholeTableau
   pub among : Contains ts of
-  pub nonzero : IsNonzero (system_of s) (basic_solution (tableau of))
+  pub nonzero : IsNonzeroAt (system_of s) (basic_solution (tableau of))
   pub marked : IsMarkOf (variable_count s) (system_of s) (basic_solution (tableau of)) mark
 
 -- the marks of all basic solutions of these tableaux that are not zero
-pub record AreMarksOf (s : Parts) (ts : List Numbers) (marks : List MarkedPoint) : Type 0 where
+pub record AreMarksOf (s : LinearSystem) (ts : List WholeTableau)
+    (marks : List MarkedPoint) : Type 0 where
   pub each : (mark : MarkedPoint) → Contains marks mark → IsMarkIn s ts mark
-  pub all : (t : Numbers) → Contains ts t → IsNonzero (system_of s) (basic_solution (tableau t))
-      → (mark : MarkedPoint) × Contains marks mark
+  pub all : (t : WholeTableau) → Contains ts t
+      → IsNonzeroAt (system_of s) (basic_solution (tableau t)) → (mark : MarkedPoint) × Contains marks mark
       × IsMarkOf (variable_count s) (system_of s) (basic_solution (tableau t)) mark
 
 -- the same marks in ascending order of their masks, one of each mask

@@ -2,7 +2,7 @@
 use Rattle.std.specs.Prelude.{ℕ, ◌+◌, ◌*◌, ◌^◌, ◌<◌, ◌≤◌, ◌≡◌, List, map}
 use Rattle.std.specs.List.{Contains}
 use Rattle.std.specs.List.Sorted.{IsStrictlyIncreasing}
-use Rattle.lex_tableau.specs.Rows.{Numbers}
+use Rattle.lex_tableau.specs.Rows.{WholeTableau}
 use Rattle.basis_enum.specs.Levels.{Pivot}
 use Rattle.basis_enum.specs.declared.found_pivots.FoundPivot.{FoundPivot}
 use Rattle.basis_enum.specs.Found.{AreFoundIn}
@@ -33,14 +33,14 @@ pub record IsNextOf (found next : List FoundPivot) : Type 0 where
 
 -- places and variables are numbers of 32 bits
 abbrev pub AreSmall : List FoundPivot → Type 0
-AreSmall pivots = (p : FoundPivot) → Contains pivots p → (p.parent < 2 ^ 32) × (p.entering < 2 ^ 32)
+AreSmall found = (p : FoundPivot) → Contains found p → (p.parent < 2 ^ 32) × (p.entering < 2 ^ 32)
 
 -- what a read past the end of a list of found pivots gives
 abbrev pub no_found_pivot : FoundPivot
 no_found_pivot = record { target = 0; parent = 0; entering = 0; row = 0; column = 0 }
 
 -- next has the first pivot to each new basis, in ascending order, out of all that are found
-pub record AreNewPivots (level : List Numbers) (known : List ℕ) (next : List FoundPivot)
+pub record AreNewPivots (level : List WholeTableau) (known : List ℕ) (next : List FoundPivot)
     : Type 0 where
   pub found : List FoundPivot
   pub all : AreFoundIn level known found

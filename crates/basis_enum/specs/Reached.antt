@@ -6,8 +6,8 @@ use Rattle.frac128.specs.Steps.{Step}
 use Rattle.frac128.specs.FirstUnfit.{IsFirstUnfitOf, all_fit}
 use Rattle.game_core.specs.Limits.{within}
 use Rattle.game_core.specs.declared.too_large.What.TheVariants as what
-use Rattle.lex_tableau.specs.Rows.{Numbers}
-use Rattle.lex_tableau.specs.Starts.{Parts}
+use Rattle.lex_tableau.specs.Rows.{WholeTableau}
+use Rattle.lex_tableau.specs.Starts.{LinearSystem}
 use Rattle.lex_tableau.specs.StartStops.{start_in}
 use Rattle.lex_tableau.specs.declared.tableau.StartStop.{StartStop}
 use Rattle.lex_tableau.specs.declared.tableau.StartStop.TheVariants as starts
@@ -23,7 +23,7 @@ told_start (starts.Unfit row unfit) = Start row unfit
 told_start starts.Memory = Memory
 
 -- the start's basis
-abbrev pub start_level : Parts → Answer EnumStop Levels
+abbrev pub start_level : LinearSystem → Answer EnumStop Levels
 start_level s = refused_by told_start (start_in s) >>= (λ start. only (first_level start))
 
 -- ---- the level after level k
@@ -37,7 +37,7 @@ bases_within bases = refused_by TooLarge (within what.Bases most_bases bases)
 
 -- the first of these pivots with a step that does not fit is told by its level and basis, the
 -- variable that enters and the step
-pub record IsUnfitPivot (k : ℕ) (level : List Numbers) (pivots : List Pivot) (stop : EnumStop)
+pub record IsUnfitPivot (k : ℕ) (level : List WholeTableau) (pivots : List Pivot) (stop : EnumStop)
     : Type 0 where
   pub pivot : Pivot
   pub step : Step
@@ -47,7 +47,7 @@ pub record IsUnfitPivot (k : ℕ) (level : List Numbers) (pivots : List Pivot) (
   pub told : stop ≡ Range k basis (entering level pivot) step
 
 -- the steps of these pivots from level k all fit
-abbrev pub pivots_fit : ℕ → List Numbers → List Pivot → Answer EnumStop (Unit {0})
+abbrev pub pivots_fit : ℕ → List WholeTableau → List Pivot → Answer EnumStop (Unit {0})
 pivots_fit k level pivots (Ok _) = all_fit (steps_of level) pivots (Ok tt)
 pivots_fit k level pivots (Err stop) = IsUnfitPivot k level pivots stop
 
@@ -60,12 +60,12 @@ next_level k l =
 
 -- ---- all levels
 -- level k, and those before it
-abbrev pub level_of : Parts → ℕ → Answer EnumStop Levels
+abbrev pub level_of : LinearSystem → ℕ → Answer EnumStop Levels
 level_of s zero = start_level s
 level_of s (suc k) = level_of s k >>= next_level k
 
 -- no basis is next to this level, and these are the tableaux of all levels
-pub record AreReached (s : Parts) (reached : List Numbers) : Type 0 where
+pub record AreReached (s : LinearSystem) (reached : List WholeTableau) : Type 0 where
   pub number : ℕ
   pub levels : Levels
   pub is_level : level_of s number (Ok levels)
@@ -73,10 +73,10 @@ pub record AreReached (s : Parts) (reached : List Numbers) : Type 0 where
   pub all : reached ≡ levels.before ++ levels.level
 
 -- the tableaux of all levels; or why one of them is not reached
-abbrev pub reached_in : Parts → Answer EnumStop (List Numbers)
+abbrev pub reached_in : LinearSystem → Answer EnumStop (List WholeTableau)
 reached_in s (Ok reached) = AreReached s reached
 reached_in s (Err stop) = (k : ℕ) × level_of s k (Err stop)
 
 -- A system reaches its bases in one way.
 abbrev pub ReachedAreSingle : Type 0
-ReachedAreSingle = (s : Parts) → IsSingle (reached_in s)
+ReachedAreSingle = (s : LinearSystem) → IsSingle (reached_in s)

@@ -2,15 +2,15 @@
 use Rattle.std.specs.Prelude.{ℕ, ◌+◌, ◌<◌, ◌≤◌, ◌≡◌, ◌↔◌, length}
 use Rattle.rational.specs.Rational.{zero_ℚ, ◌≤ℚ◌}
 use Rattle.linear_systems.specs.Reached.{IsVariableOf}
-use Rattle.lex_tableau.specs.Starts.{Parts, system_of}
+use Rattle.lex_tableau.specs.Starts.{LinearSystem, system_of}
 
 -- how many variables a system has
-abbrev pub variable_count : Parts → ℕ
+abbrev pub variable_count : LinearSystem → ℕ
 variable_count s = length s.basics + length s.nonbasics
 
 -- all rows are rated, there are at most 128 variables, which are the numbers from 1 on, and right
 -- sides are not negative
-pub record IsEnumerable (s : Parts) : Type 0 where
+pub record IsEnumerable (s : LinearSystem) : Type 0 where
   pub rated : s.rated ≡ length s.basics
   pub few : variable_count s ≤ 128
   pub numbered : (v : ℕ)

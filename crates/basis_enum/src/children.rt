@@ -7,12 +7,13 @@ ghost use Rattle.basis_enum.specs.Found.{AreFoundIn, AreReady};
 ghost use Rattle.basis_enum.specs.Next.{pivot_of};
 ghost use Rattle.basis_enum.specs.Walks.{AddsVertices, AddsMoreVertices};
 
-use crate::found_pivots::{Found, FoundPivot, found_from};
+use crate::found_pivots::{Findings, FoundPivot, found_from};
 use crate::marking::add_vertex;
 use crate::spent::SpentShare;
 use crate::vertex::Vertex;
+use crate::workshop::Workshop;
 use answers::Memory;
-use claims::{Claims, Helpers, helped_map};
+use claims::{Claims, PIECES_ALONE, helped_map};
 use frac128::Unfit;
 use lex_tableau::{PivotCount, PivotStop, System, Tableau};
 use outside::{Gate, OpenGate};
@@ -21,9 +22,6 @@ use std::marker::{Brand, Sync};
 use std::sync::ledger::{Blank, Ledger};
 use std::thread::Threads;
 
-// How many pieces are made on one thread before it looks for helpers again.
-const PIECES_ALONE: usize = 16;
-
 /// A level and what is read while the next one is made: the system, the tableaux of the level, the
 /// pivots from there to new bases, and the bases that are known, these new ones among them. The new
 /// tableaux are written over those that are spent.
@@ -31,7 +29,7 @@ const PIECES_ALONE: usize = 16;
 pub(crate) struct Expansion<'a, 's> {
     pub system: &'a System,
     pub level: &'a [Tableau],
-    pub pivots: &'a [FoundPivot],
+    pub next: &'a [FoundPivot],
     pub known: &'a [u128],
     pub spent: SpentShare<'s>,
 }
@@ -81,7 +79,7 @@ impl<T: Drop> From<AllocFailed<T>> for ChildStop {
 #[derive(Drop)]
 struct Reached {
     tableau: Tableau,
-    found: Found,
+    findings: Findings,
 }
 
 // The tableau after a pivot, in the room of one that is spent. The pivot is counted on a blank, and
@@ -90,23 +88,23 @@ fn pivoted<L: Ledger>(
     alloc: Global,
     spent: Option<Tableau>,
     level: &[Tableau],
-    next: &FoundPivot,
+    pivot: &FoundPivot,
     blank: Blank,
 ) -> Result<Tableau, PivotStop>
     requires level { AreReady level.now }
-    requires next { IsPivot level.now (pivot_of next.now) }
+    requires pivot { IsPivot level.now (pivot_of pivot.now) }
     requires blank { (L.parts ≡ blank.parts) × (L.name ≡ blank.name) × (0 < blank.parts) }
-    ensures child { IfOk result (IsPivoted level.now (pivot_of next.now)) }
+    ensures child { IfOk result (IsPivoted level.now (pivot_of pivot.now)) }
     ensures stop { IfErr result
-        (IsPivotStop (parent_of level.now (pivot_of next.now)) next.now.row next.now.column) }
+        (IsPivotStop (parent_of level.now (pivot_of pivot.now)) pivot.now.row pivot.now.column) }
 {
     let mut pivots = PivotCount::<L>::new(blank);
-    let parent = &level[next.parent as usize];
+    let parent = &level[pivot.parent as usize];
     parent.pivoted(
         alloc,
         spent,
-        next.row as usize,
-        next.column as usize,
+        pivot.row as usize,
+        pivot.column as usize,
         &mut pivots,
     )
 }
@@ -114,7 +112,7 @@ fn pivoted<L: Ledger>(
 // The tableau of a new basis.
 fn child(alloc: Global, expansion: &Expansion, place: usize) -> Result<Tableau, ChildStop>
     requires expandable { IsExpandable expansion.now }
-    requires place_in { place < length expansion.now.pivots.now }
+    requires place_in { place < length expansion.now.next.now }
     ensures child { IfOk result (IsChildAt expansion.now place) }
     ensures stop { IfErr result (IsChildStopAt expansion.now place) }
 {
@@ -122,7 +120,7 @@ fn child(alloc: Global, expansion: &Expansion, place: usize) -> Result<Tableau, 
         alloc,
         expansion.spent.take(),
         expansion.level,
-        &expansion.pivots[place],
+        &expansion.next[place],
         Blank::new(1),
     ) {
         Ok(tableau) => Ok(tableau),
@@ -140,21 +138,21 @@ fn piece<G: Gate>(
     gate: &G,
 ) -> Result<Reached, ChildStop>
     requires expandable { IsExpandable expansion.now }
-    requires place_in { place < length expansion.now.pivots.now }
+    requires place_in { place < length expansion.now.next.now }
     ensures { MatchResult result (IsReachedAt expansion.now place)
         (IsChildStopAt expansion.now place) }
 {
     let tableau = child(alloc, expansion, place)?;
     gate.pass(place);
-    let found = found_from(
+    let findings = found_from(
         alloc,
         expansion.system,
         &tableau,
         place as u32,
-        expansion.pivots[place].target,
+        expansion.next[place].target,
         expansion.known,
     )?;
-    Ok(Reached { tableau, found })
+    Ok(Reached { tableau, findings })
 }
 
 // What is made of the next level so far: its tableaux, in order, and the pivots from there to new
@@ -162,37 +160,36 @@ fn piece<G: Gate>(
 #[derive(Drop)]
 pub(crate) struct Made {
     tableaux: Vec<Tableau>,
-    pivots: Vec<FoundPivot>,
+    found: Vec<FoundPivot>,
 }
 
 // Adds a tableau, its pivots and its vertex to those of its level.
 fn add_reached(reached: Reached, made: &mut Made, vertices: &mut Vec<Vertex>) -> Result<(), Memory>
     ensures tableaux { OnOk result
         (made.new.tableaux.items ≡ made.old.tableaux.items ++ reached.tableau ∷ []) }
-    ensures pivots { OnOk result
-        (made.new.pivots.items ≡ made.old.pivots.items ++ reached.found.pivots.items) }
+    ensures found { OnOk result
+        (made.new.found.items ≡ made.old.found.items ++ reached.findings.found.items) }
     ensures vertices { OnOk result
-        (vertices.new.items ≡ vertices.old.items ++ option_to_list reached.found.vertex) }
+        (vertices.new.items ≡ vertices.old.items ++ option_to_list reached.findings.vertex) }
 {
     let mut reached = reached;
     made.tableaux.push(reached.tableau)?;
-    made.pivots.append(&mut reached.found.pivots)?;
-    add_vertex(vertices, reached.found.vertex)
+    made.found.append(&mut reached.findings.found)?;
+    add_vertex(vertices, reached.findings.vertex)
 }
 
 // Makes the next pieces on this thread, 16 of them at most.
 #[tactic(auto, using(crate::proofs::NextLevelLemmas::stop_made, crate::proofs::WalkLemmas::adding_start))]
-fn make_children<G: Gate, L: Ledger>(
-    alloc: Global,
+fn make_children<R, G: Gate, L: Ledger>(
+    workshop: &Workshop<R, G>,
     expansion: &Expansion,
-    gate: &G,
     made: &mut Made,
     vertices: &mut Vec<Vertex>,
     pivots: &mut PivotCount<L>,
 ) -> Result<(), ChildStop>
     requires expandable { IsExpandable expansion.now }
     requires made { IsMadeFrom expansion.now made.old }
-    requires left { length made.old.tableaux.items < length expansion.now.pivots.now }
+    requires left { length made.old.tableaux.items < length expansion.now.next.now }
     ensures made { OnOk result (IsMadeFrom expansion.now made.new) }
     ensures more { OnOk result (length made.old.tableaux.items < length made.new.tableaux.items) }
     ensures vertices { OnOk result (AddsMoreVertices expansion.now.system.now
@@ -201,14 +198,14 @@ fn make_children<G: Gate, L: Ledger>(
     ensures counted { OnOk result (pivots.new + length made.old.tableaux.items
         ≡ pivots.old + length made.new.tableaux.items) }
     ensures bounded { pivots.new + length made.old.tableaux.items
-        ≤ pivots.old + length expansion.now.pivots.now }
+        ≤ pivots.old + length expansion.now.next.now }
     ensures risen { pivots.old ≤ pivots.new }
 {
     let first = made.tableaux.len();
-    let end = expansion.pivots.len().min(first + PIECES_ALONE);
+    let end = expansion.next.len().min(first + PIECES_ALONE);
     for place in first..end {
-        gate.pass(place);
-        let reached = piece(alloc, expansion, place, gate)?;
+        workshop.gate.pass(place);
+        let reached = piece(workshop.alloc, expansion, place, workshop.gate)?;
         pivots.tick();
         add_reached(reached, made, vertices)?;
     }
@@ -237,7 +234,7 @@ fn boxed_piece<G: Gate>(
     gate: &G,
 ) -> Option<Box<Reached>>
     requires expandable { IsExpandable expansion.now }
-    requires place_in { place < length expansion.now.pivots.now }
+    requires place_in { place < length expansion.now.next.now }
     ensures { IfSome result (λ b. IsReachedAt expansion.now place b.value) }
 {
     let reached = piece(alloc, expansion, place, gate).ok()?;
@@ -247,26 +244,34 @@ fn boxed_piece<G: Gate>(
 
 // The pieces from a number on, which helpers share.
 fn shared_pieces<R: Threads + Sync, G: Gate>(
-    rt: &R,
-    alloc: Global,
+    workshop: &Workshop<R, G>,
     expansion: &Expansion,
     first: usize,
-    helpers: &Helpers,
-    gate: &G,
 ) -> Result<Vec<Option<Box<Reached>>>, Memory>
     requires expandable { IsExpandable expansion.now }
-    requires first_in { first ≤ length expansion.now.pivots.now }
+    requires first_in { first ≤ length expansion.now.next.now }
     ensures { IfOk result (λ v. ArePiecesFrom expansion.now first v.items) }
 {
+    let alloc = workshop.alloc;
+    let gate = workshop.gate;
     let (claims, mut pass) = Claims::new(alloc)?;
-    let count = expansion.pivots.len() - first;
+    let count = expansion.next.len() - first;
     let work = |number: usize| -> Option<Box<Reached>>
         requires expandable { IsExpandable expansion.now }
-        requires place_in { first + number < length expansion.now.pivots.now }
+        requires place_in { first + number < length expansion.now.next.now }
         ensures { IfSome result (λ b. IsReachedAt expansion.entry.now (first + number) b.value) }
     { boxed_piece(alloc, expansion, first + number, gate) };
     let gate = GateFrom { gate, first };
-    helped_map(rt, alloc, &claims, &mut pass, count, helpers, &gate, &work)
+    helped_map(
+        workshop.rt,
+        alloc,
+        &claims,
+        &mut pass,
+        count,
+        workshop.helpers,
+        &gate,
+        &work,
+    )
 }
 
 // What is in a box; where there is none, the piece is made again, so that its refusal is told.
@@ -277,7 +282,7 @@ fn unboxed(
     boxed: Option<Box<Reached>>,
 ) -> Result<Reached, ChildStop>
     requires expandable { IsExpandable expansion.now }
-    requires place_in { place < length expansion.now.pivots.now }
+    requires place_in { place < length expansion.now.next.now }
     requires boxed { IfSome boxed (λ b. IsReachedAt expansion.now place b.value) }
     ensures { MatchResult result (IsReachedAt expansion.now place)
         (IsChildStopAt expansion.now place) }
@@ -293,7 +298,7 @@ fn found_count(pieces: &[Option<Box<Reached>>]) -> usize {
     let mut count: usize = 0;
     for piece in pieces.iter() {
         if let Some(reached) = piece {
-            count = count.saturating_add(reached.found.pivots.len());
+            count = count.saturating_add(reached.findings.found.len());
         }
     }
     count
@@ -302,34 +307,31 @@ fn found_count(pieces: &[Option<Box<Reached>>]) -> usize {
 // Makes all pieces that are left, which helpers share.
 #[tactic(auto, using(crate::proofs::NextLevelLemmas::stop_made, crate::proofs::WalkLemmas::adding_start))]
 fn share_children<R: Threads + Sync, G: Gate, L: Ledger>(
-    rt: &R,
-    alloc: Global,
+    workshop: &Workshop<R, G>,
     expansion: &Expansion,
-    helpers: &Helpers,
-    gate: &G,
     made: &mut Made,
     vertices: &mut Vec<Vertex>,
     pivots: &mut PivotCount<L>,
 ) -> Result<(), ChildStop>
     requires expandable { IsExpandable expansion.now }
     requires made { IsMadeFrom expansion.now made.old }
-    requires left { length made.old.tableaux.items < length expansion.now.pivots.now }
+    requires left { length made.old.tableaux.items < length expansion.now.next.now }
     ensures made { OnOk result (IsMadeFrom expansion.now made.new) }
-    ensures all { OnOk result (length made.new.tableaux.items ≡ length expansion.now.pivots.now) }
+    ensures all { OnOk result (length made.new.tableaux.items ≡ length expansion.now.next.now) }
     ensures vertices { OnOk result (AddsMoreVertices expansion.now.system.now
         made.old.tableaux.items made.new.tableaux.items vertices.old.items vertices.new.items) }
     ensures stop { IfErr result (IsChildStop expansion.now) }
     ensures counted { OnOk result (pivots.new + length made.old.tableaux.items
         ≡ pivots.old + length made.new.tableaux.items) }
     ensures bounded { pivots.new + length made.old.tableaux.items
-        ≤ pivots.old + length expansion.now.pivots.now }
+        ≤ pivots.old + length expansion.now.next.now }
     ensures risen { pivots.old ≤ pivots.new }
 {
     let first = made.tableaux.len();
-    let pieces = shared_pieces(rt, alloc, expansion, first, helpers, gate)?;
-    made.pivots.reserve(found_count(&pieces))?;
+    let pieces = shared_pieces(workshop, expansion, first)?;
+    made.found.reserve(found_count(&pieces))?;
     for piece in pieces {
-        let reached = unboxed(alloc, expansion, made.tableaux.len(), piece)?;
+        let reached = unboxed(workshop.alloc, expansion, made.tableaux.len(), piece)?;
         pivots.tick();
         add_reached(reached, made, vertices)?;
     }
@@ -339,18 +341,15 @@ fn share_children<R: Threads + Sync, G: Gate, L: Ledger>(
 // Makes further pieces: all that are left, where they are enough for helpers who are idle and who
 // share them, and else some.
 fn make_more<R: Threads + Sync, G: Gate, L: Ledger>(
-    rt: &R,
-    alloc: Global,
+    workshop: &Workshop<R, G>,
     expansion: &Expansion,
-    helpers: &Helpers,
-    gate: &G,
     made: &mut Made,
     vertices: &mut Vec<Vertex>,
     pivots: &mut PivotCount<L>,
 ) -> Result<(), ChildStop>
     requires expandable { IsExpandable expansion.now }
     requires made { IsMadeFrom expansion.now made.old }
-    requires left { length made.old.tableaux.items < length expansion.now.pivots.now }
+    requires left { length made.old.tableaux.items < length expansion.now.next.now }
     ensures made { OnOk result (IsMadeFrom expansion.now made.new) }
     ensures more { OnOk result (length made.old.tableaux.items < length made.new.tableaux.items) }
     ensures vertices { OnOk result (AddsMoreVertices expansion.now.system.now
@@ -359,13 +358,14 @@ fn make_more<R: Threads + Sync, G: Gate, L: Ledger>(
     ensures counted { OnOk result (pivots.new + length made.old.tableaux.items
         ≡ pivots.old + length made.new.tableaux.items) }
     ensures bounded { pivots.new + length made.old.tableaux.items
-        ≤ pivots.old + length expansion.now.pivots.now }
+        ≤ pivots.old + length expansion.now.next.now }
     ensures risen { pivots.old ≤ pivots.new }
 {
-    if helpers.are_free_for(expansion.pivots.len() - made.tableaux.len()) {
-        share_children(rt, alloc, expansion, helpers, gate, made, vertices, pivots)
+    let left = expansion.next.len() - made.tableaux.len();
+    if workshop.helpers.are_free_for(left) {
+        share_children(workshop, expansion, made, vertices, pivots)
     } else {
-        make_children(alloc, expansion, gate, made, vertices, pivots)
+        make_children(workshop, expansion, made, vertices, pivots)
     }
 }
 
@@ -373,11 +373,8 @@ fn make_more<R: Threads + Sync, G: Gate, L: Ledger>(
 /// vertices of the level are added. Helpers share the pieces from the time on at which they are
 /// idle, where enough are left.
 pub(crate) fn children<R: Threads + Sync, G: Gate, L: Ledger>(
-    rt: &R,
-    alloc: Global,
+    workshop: &Workshop<R, G>,
     expansion: &Expansion,
-    helpers: &Helpers,
-    gate: &G,
     vertices: &mut Vec<Vertex>,
     pivots: &mut PivotCount<L>,
 ) -> Result<(Vec<Tableau>, Vec<FoundPivot>), ChildStop>
@@ -387,18 +384,16 @@ pub(crate) fn children<R: Threads + Sync, G: Gate, L: Ledger>(
     ensures vertices { IfOk result (λ p. AddsVertices expansion.now.system.now p.0.items
         vertices.old.items vertices.new.items) }
     ensures stop { IfErr result (IsChildStop expansion.now) }
-    ensures counted { OnOk result (pivots.new ≡ pivots.old + length expansion.now.pivots.now) }
-    ensures bounded { pivots.new ≤ pivots.old + length expansion.now.pivots.now }
+    ensures counted { OnOk result (pivots.new ≡ pivots.old + length expansion.now.next.now) }
+    ensures bounded { pivots.new ≤ pivots.old + length expansion.now.next.now }
     ensures risen { pivots.old ≤ pivots.new }
 {
     let mut made = Made {
-        tableaux: Vec::with_capacity(alloc, expansion.pivots.len())?,
-        pivots: Vec::new(alloc),
+        tableaux: Vec::with_capacity(workshop.alloc, expansion.next.len())?,
+        found: Vec::new(workshop.alloc),
     };
-    while made.tableaux.len() < expansion.pivots.len() {
-        make_more(
-            rt, alloc, expansion, helpers, gate, &mut made, vertices, pivots,
-        )?;
+    while made.tableaux.len() < expansion.next.len() {
+        make_more(workshop, expansion, &mut made, vertices, pivots)?;
     }
-    Ok((made.tableaux, made.pivots))
+    Ok((made.tableaux, made.found))
 }

@@ -11,6 +11,7 @@ use crate::marking::in_order;
 use crate::stop::EnumStop;
 use crate::vertex::Vertices;
 use crate::walk::reach;
+use crate::workshop::Workshop;
 use claims::{FEWEST_SHARED, Helpers};
 use lex_tableau::{PivotCount, System};
 use outside::Gate;
@@ -77,7 +78,13 @@ pub fn enumerate_with<R: Threads + Sync, G: Gate, L: Ledger>(
     ensures bounded { pivots.new < pivots.old + most_bases }
     ensures risen { pivots.old ≤ pivots.new }
 {
-    let walk = reach(rt, alloc, system, helpers, gate, pivots)?;
+    let workshop = Workshop {
+        rt,
+        alloc,
+        helpers,
+        gate,
+    };
+    let walk = reach(&workshop, system, pivots)?;
     Ok(Vertices {
         bases: walk.known.len() as u64,
         list: in_order(walk.vertices),

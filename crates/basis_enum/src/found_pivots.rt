@@ -30,8 +30,8 @@ pub(crate) struct FoundPivot {
 
 // What a tableau gives: its pivots to new bases, and its vertex, where it has one.
 #[derive(Drop)]
-pub(crate) struct Found {
-    pub pivots: Vec<FoundPivot>,
+pub(crate) struct Findings {
+    pub found: Vec<FoundPivot>,
     pub vertex: Option<Vertex>,
 }
 
@@ -92,8 +92,8 @@ fn pivots_from(
 {
     let mut found = Vec::with_capacity(alloc, tableau.nonbasics().len())?;
     for column in 0..tableau.nonbasics().len() {
-        if let Some(next) = pivot_in_column(tableau, parent, basis, known, column) {
-            found.push(next)?;
+        if let Some(pivot) = pivot_in_column(tableau, parent, basis, known, column) {
+            found.push(pivot)?;
         }
     }
     Ok(found)
@@ -107,19 +107,19 @@ pub(crate) fn found_from(
     parent: u32,
     basis: u128,
     known: &[u128],
-) -> Result<Found, Memory>
+) -> Result<Findings, Memory>
     requires enumerable { IsEnumerable system.now }
     requires numbered { AreUpTo (variable_count system.now) tableau.now.basics }
     requires ready { IsReady tableau.now }
     requires basis { basis ≡ basis_of tableau.now.nonbasics }
     requires known { IsStrictlyIncreasing known.now }
-    ensures pivots { IfOk result (λ f. AreFound tableau.now parent known.now
-        (length tableau.now.nonbasics) f.pivots.items) }
+    ensures found { IfOk result (λ f. AreFound tableau.now parent known.now
+        (length tableau.now.nonbasics) f.found.items) }
     ensures vertex { IfOk result (λ f. IsVertexOf system.now tableau.now f.vertex) }
 {
-    let pivots = pivots_from(alloc, tableau, parent, basis, known)?;
+    let found = pivots_from(alloc, tableau, parent, basis, known)?;
     let vertex = vertex_of(alloc, system, tableau)?;
-    Ok(Found { pivots, vertex })
+    Ok(Findings { found, vertex })
 }
 
 // By what pivots are ordered.
@@ -148,17 +148,17 @@ pub(crate) fn next_pivots(found: Vec<FoundPivot>) -> Vec<FoundPivot>
             ensures { result ≡ nat_cmp (rank_of a.now) (rank_of b.now) }
         { compare(a, b) },
     );
-    found.dedup_by_key(|next: &mut FoundPivot| next.target);
+    found.dedup_by_key(|pivot: &mut FoundPivot| pivot.target);
     found
 }
 
 // The bases to which pivots lead.
-pub(crate) fn targets(alloc: Global, pivots: &[FoundPivot]) -> Result<Vec<u128>, Memory>
-    ensures { IfOk result (λ v. v.items ≡ map target_of pivots.now) }
+pub(crate) fn targets(alloc: Global, next: &[FoundPivot]) -> Result<Vec<u128>, Memory>
+    ensures { IfOk result (λ v. v.items ≡ map target_of next.now) }
 {
-    let mut targets = Vec::with_capacity(alloc, pivots.len())?;
-    for next in pivots {
-        targets.push(next.target)?;
+    let mut targets = Vec::with_capacity(alloc, next.len())?;
+    for pivot in next {
+        targets.push(pivot.target)?;
     }
     Ok(targets)
 }

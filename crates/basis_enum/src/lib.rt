@@ -27,6 +27,7 @@ mod spent;
 mod stop;
 mod vertex;
 mod walk;
+mod workshop;
 
 pub use enumeration::{enumerate, enumerate_with};
 pub use stop::{Basis, EnumStop};

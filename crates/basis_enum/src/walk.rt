@@ -19,8 +19,8 @@ use crate::marking::add_vertex;
 use crate::spent::Spent;
 use crate::stop::{Basis, EnumStop};
 use crate::vertex::Vertex;
+use crate::workshop::Workshop;
 use answers::Memory;
-use claims::Helpers;
 use game_core::{TooLarge, What};
 use lex_tableau::{PivotCount, System, Tableau};
 use outside::Gate;
@@ -33,13 +33,14 @@ use std::thread::Threads;
 // How many bases may be reached.
 const MOST_BASES: u64 = 20_000;
 
-// A level: its tableaux. Beside it the bases of all levels so far, in ascending order, and the
-// vertices of their tableaux as they were reached.
+// A level: its tableaux. Beside it the bases of all levels so far, in ascending order, the vertices
+// of their tableaux as they were reached, and the tableaux that are spent.
 #[derive(Drop)]
 pub(crate) struct Walk {
     pub level: Vec<Tableau>,
     pub known: Vec<u128>,
     pub vertices: Vec<Vertex>,
+    spent: Spent,
 }
 
 // The list of one item.
@@ -59,7 +60,7 @@ fn start<G: Gate>(
 ) -> Result<(Walk, Vec<FoundPivot>), EnumStop>
     requires enumerable { IsEnumerable system.now }
     ensures walk { IfOk result (λ p. IsWalkAt system.now 0 p.0) }
-    ensures pivots { IfOk result (λ p. AreNewPivots p.0.level.items p.0.known.items p.1.items) }
+    ensures next { IfOk result (λ p. AreNewPivots p.0.level.items p.0.known.items p.1.items) }
     ensures one { IfOk result (λ p. length p.0.known.items ≡ 1) }
     ensures stop { IfErr result (IsEnumStop system.now) }
 {
@@ -67,17 +68,18 @@ fn start<G: Gate>(
     let basis = basis(system.nonbasics());
     let known = list_of(alloc, basis)?;
     gate.pass(0);
-    let found = found_from(alloc, system, &tableau, 0, basis, known.as_slice())?;
+    let findings = found_from(alloc, system, &tableau, 0, basis, known.as_slice())?;
     let level = list_of(alloc, tableau)?;
     let mut vertices = Vec::new(alloc);
-    add_vertex(&mut vertices, found.vertex)?;
-    let pivots = next_pivots(found.pivots);
+    add_vertex(&mut vertices, findings.vertex)?;
+    let next = next_pivots(findings.found);
     let walk = Walk {
         level,
         known,
         vertices,
+        spent: Spent::new(alloc)?,
     };
-    Ok((walk, pivots))
+    Ok((walk, next))
 }
 
 // These variables, in ascending order.
@@ -93,18 +95,18 @@ fn ascending(alloc: Global, variables: &[u32]) -> Result<Vec<u32>, Memory>
 // The refusal of the next level.
 fn refusal(alloc: Global, expansion: &Expansion, number: u32, stop: ChildStop) -> EnumStop
     requires expandable { IsExpandable expansion.now }
-    requires entering { HaveEntering expansion.now.level.now expansion.now.pivots.now }
+    requires entering { HaveEntering expansion.now.level.now expansion.now.next.now }
     requires stop { IsChildStop expansion.now stop }
-    ensures { IsLevelStop expansion.now.level.now expansion.now.pivots.now number result }
+    ensures { IsLevelStop expansion.now.level.now expansion.now.next.now number result }
 {
     match stop {
         ChildStop::Unfit { place, unfit } => {
-            let next = expansion.pivots[place];
-            match ascending(alloc, expansion.level[next.parent as usize].basics()) {
+            let pivot = expansion.next[place];
+            match ascending(alloc, expansion.level[pivot.parent as usize].basics()) {
                 Ok(variables) => EnumStop::Range {
                     level: number,
                     basis: Basis::new(variables),
-                    entering: next.entering,
+                    entering: pivot.entering,
                     unfit,
                 },
                 Err(_) => EnumStop::Memory,
@@ -117,70 +119,63 @@ fn refusal(alloc: Global, expansion: &Expansion, number: u32, stop: ChildStop) -
 // The tableaux of the level after this one, and the pivots from there to new bases. The vertices of
 // that level are added.
 fn next_level<R: Threads + Sync, G: Gate, L: Ledger>(
-    rt: &R,
-    alloc: Global,
+    workshop: &Workshop<R, G>,
     expansion: &Expansion,
     number: u32,
-    helpers: &Helpers,
-    gate: &G,
     vertices: &mut Vec<Vertex>,
     pivots: &mut PivotCount<L>,
 ) -> Result<(Vec<Tableau>, Vec<FoundPivot>), EnumStop>
     requires expandable { IsExpandable expansion.now }
-    requires entering { HaveEntering expansion.now.level.now expansion.now.pivots.now }
+    requires entering { HaveEntering expansion.now.level.now expansion.now.next.now }
     ensures children { IfOk result (λ p. AreAllChildren expansion.now p.0.items) }
     ensures found { IfOk result (λ p. AreFoundIn p.0.items expansion.now.known.now p.1.items) }
     ensures vertices { IfOk result (λ p. AddsVertices expansion.now.system.now p.0.items
         vertices.old.items vertices.new.items) }
     ensures stop { IfErr result
-        (IsLevelStop expansion.now.level.now expansion.now.pivots.now number) }
-    ensures counted { OnOk result (pivots.new ≡ pivots.old + length expansion.now.pivots.now) }
-    ensures bounded { pivots.new ≤ pivots.old + length expansion.now.pivots.now }
+        (IsLevelStop expansion.now.level.now expansion.now.next.now number) }
+    ensures counted { OnOk result (pivots.new ≡ pivots.old + length expansion.now.next.now) }
+    ensures bounded { pivots.new ≤ pivots.old + length expansion.now.next.now }
     ensures risen { pivots.old ≤ pivots.new }
 {
-    match children(rt, alloc, expansion, helpers, gate, vertices, pivots) {
-        Ok(next) => Ok(next),
-        Err(stop) => Err(refusal(alloc, expansion, number, stop)),
+    match children(workshop, expansion, vertices, pivots) {
+        Ok(made) => Ok(made),
+        Err(stop) => Err(refusal(workshop.alloc, expansion, number, stop)),
     }
 }
 
 // Refuses too many bases.
-fn check_count(bases: usize, pivots: &[FoundPivot]) -> Result<(), EnumStop>
+fn check_count(bases: usize, next: &[FoundPivot]) -> Result<(), EnumStop>
     requires { bases ≤ most_bases }
-    ensures few { OnOk result (bases + length pivots.now ≤ most_bases) }
-    ensures stop { IfErr result (λ stop. bases_within (bases + length pivots.now) (Err stop)) }
+    ensures few { OnOk result (bases + length next.now ≤ most_bases) }
+    ensures stop { IfErr result (λ stop. bases_within (bases + length next.now) (Err stop)) }
 {
-    let count = bases as u64 + pivots.len() as u64;
+    let count = bases as u64 + next.len() as u64;
     Ok(TooLarge::within(What::Bases, MOST_BASES, count)?)
 }
 
 // The bases that are known, and with them those to which these pivots lead.
-fn known_after(alloc: Global, known: &[u128], pivots: &[FoundPivot]) -> Result<Vec<u128>, EnumStop>
+fn known_after(alloc: Global, known: &[u128], next: &[FoundPivot]) -> Result<Vec<u128>, EnumStop>
     requires few { length known.now ≤ most_bases }
     requires known { IsStrictlyIncreasing known.now }
-    requires rising { IsStrictlyIncreasing (map target_of pivots.now) }
-    requires new { (b : ℕ) → Contains known.now b → ¬ (Contains (map target_of pivots.now) b) }
-    ensures few { OnOk result (length known.now + length pivots.now ≤ most_bases) }
-    ensures merged { IfOk result (λ v. IsMerged known.now (map target_of pivots.now) v.items) }
-    ensures stop { IfErr result (IsCountStop (length known.now + length pivots.now)) }
+    requires rising { IsStrictlyIncreasing (map target_of next.now) }
+    requires new { (b : ℕ) → Contains known.now b → ¬ (Contains (map target_of next.now) b) }
+    ensures few { OnOk result (length known.now + length next.now ≤ most_bases) }
+    ensures merged { IfOk result (λ v. IsMerged known.now (map target_of next.now) v.items) }
+    ensures stop { IfErr result (IsCountStop (length known.now + length next.now)) }
 {
-    check_count(known.len(), pivots)?;
-    let new = targets(alloc, pivots)?;
+    check_count(known.len(), next)?;
+    let new = targets(alloc, next)?;
     Ok(merged(alloc, known, new.as_slice())?)
 }
 
 // Goes on to the next level by the pivots to it, and finds those from there. The tableaux of this
 // level are spent.
 fn advance<R: Threads + Sync, G: Gate, L: Ledger>(
-    rt: &R,
-    alloc: Global,
+    workshop: &Workshop<R, G>,
     system: &System,
     walk: &mut Walk,
-    spent: &mut Spent,
     next: &[FoundPivot],
     number: u32,
-    helpers: &Helpers,
-    gate: &G,
     pivots: &mut PivotCount<L>,
 ) -> Result<Vec<FoundPivot>, EnumStop>
     requires enumerable { IsEnumerable system.now }
@@ -196,30 +191,25 @@ fn advance<R: Threads + Sync, G: Gate, L: Ledger>(
     ensures bounded { pivots.new + length walk.old.known.items ≤ pivots.old + most_bases }
     ensures risen { pivots.old ≤ pivots.new }
 {
-    let known = known_after(alloc, walk.known.as_slice(), next)?;
+    let known = known_after(workshop.alloc, walk.known.as_slice(), next)?;
     let expansion = Expansion {
         system,
         level: walk.level.as_slice(),
-        pivots: next,
+        next,
         known: known.as_slice(),
-        spent: spent.share_among(next.len()),
+        spent: walk.spent.share_among(next.len()),
     };
     let vertices = &mut walk.vertices;
-    let (level, found) = next_level(
-        rt, alloc, &expansion, number, helpers, gate, vertices, pivots,
-    )?;
-    spent.add(mem::replace(&mut walk.level, level));
+    let (level, found) = next_level(workshop, &expansion, number, vertices, pivots)?;
+    walk.spent.add(mem::replace(&mut walk.level, level));
     walk.known = known;
     Ok(next_pivots(found))
 }
 
 // Goes from level to level, to the last one.
 pub(crate) fn reach<R: Threads + Sync, G: Gate, L: Ledger>(
-    rt: &R,
-    alloc: Global,
+    workshop: &Workshop<R, G>,
     system: &System,
-    helpers: &Helpers,
-    gate: &G,
     pivots: &mut PivotCount<L>,
 ) -> Result<Walk, EnumStop>
     requires enumerable { IsEnumerable system.now }
@@ -229,22 +219,10 @@ pub(crate) fn reach<R: Threads + Sync, G: Gate, L: Ledger>(
     ensures bounded { pivots.new < pivots.old + most_bases }
     ensures risen { pivots.old ≤ pivots.new }
 {
-    let (mut walk, mut next) = start(alloc, system, gate)?;
-    let mut spent = Spent::new(alloc)?;
+    let (mut walk, mut next) = start(workshop.alloc, system, workshop.gate)?;
     let mut number = 0;
     while !next.is_empty() {
-        next = advance(
-            rt,
-            alloc,
-            system,
-            &mut walk,
-            &mut spent,
-            next.as_slice(),
-            number,
-            helpers,
-            gate,
-            pivots,
-        )?;
+        next = advance(workshop, system, &mut walk, next.as_slice(), number, pivots)?;
         number += 1;
     }
     Ok(walk)

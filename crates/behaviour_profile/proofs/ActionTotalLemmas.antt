@@ -3,16 +3,15 @@ use Rattle.std.proofs.Common.{ℕ, zero, suc, ◌+◌, ◌*◌, ◌<◌, ◌≤�
 use Rattle.std.specs.Prelude.{◌==◌, if◌then◌else◌, sum}
 use Rattle.std.specs.List.{range_with_len, flat_map}
 use Rattle.std.proofs.lemmas.Bool.Decides.{Decides-eqb}
-use Rattle.std.proofs.lemmas.List.{map-append}
+use Rattle.std.proofs.lemmas.List.{append-nil, map-append}
 use Rattle.game_theory.specs.Trees.{Tree}
 use Rattle.game_theory.specs.Behaviour.{is_index}
 use Rattle.game_core.specs.Tree.{GameTree, IsGameTree}
 use Rattle.game_core.specs.TreeGame.{game_of_tree}
-use Rattle.strategy_lists.specs.OwnNumbers.{own_numbers}
 use Rattle.strategy_lists.proofs.ActionCountLemmas.{actions-below}
-use Rattle.strategy_lists.proofs.OwnNumberLemmas.{own_sets-numbers}
+use Rattle.strategy_lists.proofs.OwnNumberLemmas.{own_numbers-next}
 use Rattle.behaviour_profile.specs.EntryTests.{action_counts}
-use Rattle.game_theory.specs.OwnSets.{own_counts}
+use Rattle.game_theory.specs.OwnSets.{own_counts, own_numbers}
 use Rattle.behaviour_profile.proofs.GroupListLemmas.{sum-append, sum-cons, sum-nil}
 use Rattle.lists.proofs.ElementLemmas.{made-next}
 
@@ -45,11 +44,11 @@ module _ (t : Tree) where
   own_total i n = sum (map t.actions (own_numbers t.owner i n))
 
   own-next : (i n : ℕ) → own_total i (suc n) ≡ own_total i n + (if is_index (t.owner n) i then t.actions n else 0)
-  own-next i n = go (is_index (t.owner n) i)
+  own-next i n = ap (λ xs. sum (map t.actions xs)) (own_numbers-next t.owner i n) ∙ go (is_index (t.owner n) i)
     where
-      go : (b : Bool) → sum (map t.actions (if b then own_numbers t.owner i n ++ n ∷ [] else own_numbers t.owner i n)) ≡ own_total i n + (if b then t.actions n else 0)
+      go : (b : Bool) → sum (map t.actions (own_numbers t.owner i n ++ (if b then n ∷ [] else []))) ≡ own_total i n + (if b then t.actions n else 0)
       go true = ap sum (map-append t.actions (own_numbers t.owner i n) (n ∷ [])) ∙ sum-append (map t.actions (own_numbers t.owner i n)) (t.actions n ∷ []) ∙ omega (arith, sum-cons (t.actions n) [], sum-nil)
-      go false = omega arith
+      go false = ap (λ xs. sum (map t.actions xs)) (append-nil (own_numbers t.owner i n)) ∙ omega arith
 
   abbrev total_below : ℕ → ℕ → ℕ
   total_below zero n = 0
@@ -67,9 +66,8 @@ module _ (t : Tree) where
   total-is : (p : ℕ) → sum (flat_map (own_counts t) (range_with_len 0 p)) ≡ total_below p t.sets
   total-is zero = sum-nil
   total-is (suc p) =
-      let here : sum (own_counts t p) ≡ own_total p t.sets = ap (λ sets. sum (map t.actions sets)) (own_sets-numbers t p) in
       let all = ap sum (made-next (own_counts t) p) ∙ sum-append (flat_map (own_counts t) (range_with_len 0 p)) (own_counts t p) in
-      omega (arith, all, here, total-is p)
+      omega (arith, all, total-is p)
 
 total-few : (t : GameTree) (p n : ℕ) → IsGameTree t → n ≤ length t.sets → total_below (game_of_tree t) p n ≤ 65535 * n
 total-few t p zero valid few = omega (arith, total-none (game_of_tree t) p)

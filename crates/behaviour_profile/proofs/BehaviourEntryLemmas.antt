@@ -1,12 +1,13 @@
 -- The entries of behaviour, as they grow set by set and player by player.
-use Rattle.std.proofs.Common.{ℕ, zero, suc, ◌+◌, ◌-◌, ◌<◌, ◌≤◌, ◌≡◌, ◌≢◌, inl, inr, None, Some, List, [], ◌∷◌, ◌++◌, length, map, get_or, slice_get, take, refl, sym, ap, ap₂, ◌∙◌, subst, arith, add-zero, add-one, append_assoc}
+use Rattle.std.proofs.Common.{ℕ, zero, suc, ◌+◌, ◌-◌, ◌<◌, ◌≤◌, ◌≡◌, ◌≢◌, inl, inr, None, Some, List, [], ◌∷◌, ◌++◌, length, map, get_or, slice_get, take, refl, sym, ap, ap₂, ◌∙◌, subst, arith, add-one, append_assoc}
 use Rattle.std.specs.List.{flat_map}
 use Rattle.std.proofs.lemmas.Grind.{flat_map-append}
 use Rattle.std.proofs.lemmas.List.{append-nil, take_more, get_or-map, length-map}
 use Rattle.std.proofs.lemmas.Option.{none-some, same_Some, slice_get-get_or, slice_get_within, get_or_from_slice_get}
-use Rattle.game_theory.specs.TreeEntries.{own_entries, entries_from}
+use Rattle.game_theory.specs.TreeEntries.{own_entries, entries_below}
 use Rattle.game_theory.specs.OwnSets.{own_sets}
 use Rattle.game_theory.proofs.OwnSetLemmas.{IsAmong, AscendFrom, own_sets-tell, own_sets-ascend}
+use Rattle.lists.proofs.ElementLemmas.{made-next}
 use Rattle.rational.specs.Rational.{ℚ}
 use Rattle.game_theory.specs.Lines.{listed}
 use Rattle.game_theory.specs.Mixed.{sure}
@@ -50,20 +51,13 @@ pub own_entries-profile : (t : Tree) (strategies : List (List (List ℕ))) (prof
 own_entries-profile t strategies profile i =
     entries_at-same t _ _ (own_sets t i) (λ s h. ap (λ x. sure (x - 1)) (sym (given_at-own t strategies profile s i (own_sets-tell t i s h).1)))
 
--- the entries of one player more
-pub entries_from-next : (t : Tree) (b : Behaviour) (i n : ℕ) → entries_from t b i (suc n) ≡ entries_from t b i n ++ own_entries t b (i + n)
-entries_from-next t b i zero = append-nil (own_entries t b i) ∙ ap (own_entries t b) (sym (add-zero i))
-entries_from-next t b i (suc n) =
-    ap (λ v. own_entries t b i ++ v) (entries_from-next t b (suc i) n ∙ ap (λ v. entries_from t b (suc i) n ++ own_entries t b v) (omega arith))
-    ∙ sym (append_assoc (own_entries t b i) (entries_from t b (suc i) n) (own_entries t b (i + suc n)))
-
 -- the entries of a profile with one player more
-pub entries_from-push : (t : Tree) (strategies : List (List (List ℕ))) (profile choices : List ℕ) (all now : List ℚ) (i : ℕ) → choices ≡ list_of strategies profile i → now ≡ entries_from t (pure (completed t strategies profile)) 0 i
-    → all ≡ now ++ own_entries t (pure (first_for_none t i choices)) i → all ≡ entries_from t (pure (completed t strategies profile)) 0 (i + 1)
-entries_from-push t strategies profile choices all now i is before push =
+pub entries_below-push : (t : Tree) (strategies : List (List (List ℕ))) (profile choices : List ℕ) (all now : List ℚ) (i : ℕ) → choices ≡ list_of strategies profile i → now ≡ entries_below t (pure (completed t strategies profile)) i
+    → all ≡ now ++ own_entries t (pure (first_for_none t i choices)) i → all ≡ entries_below t (pure (completed t strategies profile)) (i + 1)
+entries_below-push t strategies profile choices all now i is before push =
     let b : Behaviour = pure (completed t strategies profile) in
-    push ∙ ap₂ (λ v w. v ++ w) before (ap (λ v. own_entries t (pure (first_for_none t i v)) i) is ∙ own_entries-profile t strategies profile i ∙ ap (own_entries t b) (omega arith))
-    ∙ sym (entries_from-next t b 0 i) ∙ ap (entries_from t b 0) (sym (add-one i))
+    push ∙ ap₂ (λ v w. v ++ w) before (ap (λ v. own_entries t (pure (first_for_none t i v)) i) is ∙ own_entries-profile t strategies profile i)
+    ∙ sym (made-next (own_entries t b) i) ∙ ap (entries_below t b) (sym (add-one i))
 
 -- ---- where the parts stand
 -- what stands at a place is among the sets

@@ -9,7 +9,7 @@ use Rattle.rational.specs.Rational.{ℚ}
 use Rattle.game_theory.specs.Lines.{listed}
 use Rattle.game_theory.specs.Trees.{Tree}
 use Rattle.game_theory.specs.OwnSets.{own_sets}
-use Rattle.game_theory.specs.TreeEntries.{own_entries, entries_from, tree_entries}
+use Rattle.game_theory.specs.TreeEntries.{own_entries, entries_below, tree_entries}
 use Rattle.sequence_forms.specs.PlanBehaviour.{behaviour_of}
 use Rattle.sequence_forms.proofs.SequenceLemmas.{own_set-is}
 use Rattle.game_core.specs.Tree.{GameTree}
@@ -100,7 +100,7 @@ module _ (t : GameTree) (one two : List ℚ) where
           tt,
           fit_second,
           ap Ok (second ∙ ap (λ v. v ++ own_entries g behaviour 1) (first ∙ ap (λ v. v ++ own_entries g behaviour 0) none)
-              ∙ ap (λ v. own_entries g behaviour 0 ++ v) (sym (append-nil (own_entries g behaviour 1))) ∙ ap (entries_from g behaviour 0) (sym two_players)),
+              ∙ ap (λ v. own_entries g behaviour 0 ++ v) (sym (append-nil (own_entries g behaviour 1))) ∙ ap (entries_below g behaviour) (sym two_players)),
         ),
       )
 
@@ -112,9 +112,3 @@ module _ (t : GameTree) (one two : List ℚ) where
   plan_behaviour-single =
       bind-single (own_quotients_in t plans 0) (λ _. own_quotients_in t plans 1 >> only entries) (quotients-single 0)
       (λ _ _. bind-single (own_quotients_in t plans 1) (λ _. only entries) (quotients-single 1) (λ _ _. only-single entries))
-
-  -- want of memory is no reason
-  pub behaviour_not_memory : plan_behaviour t one two (Err stops.Memory) → ⊥
-  behaviour_not_memory (inl (_, _, e)) = cc
-  behaviour_not_memory (inr (_, _, inl (_, _, e))) = cc
-  behaviour_not_memory (inr (_, _, inr (_, _, e))) = cc

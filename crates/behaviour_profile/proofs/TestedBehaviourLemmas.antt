@@ -1,5 +1,5 @@
 -- Entries whose tests are all passed are those of valid behaviour on a tree.
-use Rattle.std.proofs.Common.{ℕ, zero, suc, ◌<◌, ◌≡◌, ◌⊎◌, inl, inr, Bool, true, false, Decides, Some, List, [], ◌∷◌, ◌++◌, length, map, get_or, Ok, refl, sym, ap, ap₂, ◌∙◌, subst, zero-add, arith}
+use Rattle.std.proofs.Common.{ℕ, zero, suc, ◌<◌, ◌≡◌, ◌⊎◌, inl, inr, Bool, true, false, Decides, Some, List, [], ◌∷◌, ◌++◌, length, map, get_or, Ok, refl, sym, ap, ◌∙◌, subst, arith}
 use Rattle.std.specs.Prelude.{◌==◌, if◌then◌else◌}
 use Rattle.std.specs.List.{range_with_len, flat_map}
 use Rattle.std.proofs.lemmas.Bool.Decides.{Decides-eqb}
@@ -13,11 +13,11 @@ use Rattle.game_theory.proofs.ProfileLineLemmas.{entries-same}
 use Rattle.game_theory.specs.Trees.{Tree, IsTree}
 use Rattle.game_theory.specs.Behaviour.{Behaviour, IsValid}
 use Rattle.game_theory.specs.OwnSets.{own_sets, own_counts}
-use Rattle.game_theory.specs.TreeEntries.{tree_entries, entries_from}
+use Rattle.game_theory.specs.TreeEntries.{own_entries, tree_entries, entries_below}
 use Rattle.game_theory.proofs.OwnSetLemmas.{AscendFrom, IsAmong, IsAmong-from, IsAmong-left, IsAmong-parts, IsAmong-right, own_sets-ascend, own_sets-has, own_sets-tell}
 use Rattle.behaviour_profile.specs.EntryTests.{action_counts, profile_in}
 use Rattle.behaviour_profile.specs.EntryLaws.{AdditionsFit, TestedEntriesAreBehaviours}
-use Rattle.behaviour_profile.proofs.BehaviourEntryLemmas.{entries_at, entries_from-next}
+use Rattle.behaviour_profile.proofs.BehaviourEntryLemmas.{entries_at}
 use Rattle.lists.proofs.ElementLemmas.{made-next}
 use Rattle.behaviour_profile.proofs.TestedEntryLemmas.{tested_entries}
 
@@ -107,10 +107,10 @@ module _ (t : Tree) where
     entries-append : (xs ys : List ℕ) → entries_at t b (xs ++ ys) ≡ entries_at t b xs ++ entries_at t b ys
     entries-append xs ys = flat_map-append (λ s. listed (t.actions s) (b s)) xs ys
 
-    entries-below : (p : ℕ) → entries_from t b 0 p ≡ entries_at t b (sets_below p)
+    entries-below : (p : ℕ) → entries_below t b p ≡ entries_at t b (sets_below p)
     entries-below zero = refl
     entries-below (suc p) =
-        entries_from-next t b 0 p ∙ ap₂ (λ v i. v ++ entries_at t b (own_sets t i)) (entries-below p) (zero-add p)
+        made-next (own_entries t b) p ∙ ap (λ v. v ++ entries_at t b (own_sets t p)) (entries-below p)
         ∙ sym (entries-append (sets_below p) (own_sets t p)) ∙ ap (entries_at t b) (sym (made-next (own_sets t) p))
 
     -- the entries at sets are those of a mixed profile

@@ -9,7 +9,7 @@ use Rattle.rational.specs.Rational.{ℚ}
 use Rattle.game_theory.specs.OwnSets.{own_sets, own_counts}
 use Rattle.game_theory.specs.Trees.{Tree, IsTree as is_game_tree}
 use Rattle.game_theory.proofs.OwnSetLemmas.{IsAmong, own_sets-tell}
-use Rattle.game_core.specs.Tree.{GameTree, IsGameTree, InformationSet, own_sets as own_sets_of}
+use Rattle.game_core.specs.Tree.{GameTree, IsGameTree, InformationSet}
 use Rattle.game_core.specs.TreeGame.{game_of_tree}
 use Rattle.strategy_lists.proofs.ActionCountLemmas.{actions-below}
 use Rattle.behaviour_profile.specs.declared.entries.ProfileFault.{ProfileFault}
@@ -20,20 +20,17 @@ use Rattle.behaviour_profile.proofs.GroupListLemmas.{fault-longer, groups_fault,
 use Rattle.lists.proofs.ElementLemmas.{made-next}
 
 -- the own set that is read at a place
-module _ (t : GameTree) (i k : ℕ) (read : Option ℕ) (is : read ≡ slice_get (own_sets_of t i) k) (same : own_sets_of t i ≡ own_sets (game_of_tree t) i) where
-  read-is : read ≡ slice_get (own_sets (game_of_tree t) i) k
-  read-is = is ∙ ap (λ sets. slice_get sets k) same
-
+module _ (t : GameTree) (i k : ℕ) (read : Option ℕ) (is : read ≡ slice_get (own_sets (game_of_tree t) i) k) where
   -- where there is none, all have been read
   pub none-left : read ≡ None → take k (own_counts (game_of_tree t) i) ≡ own_counts (game_of_tree t) i
   none-left none = take_all k (own_counts (game_of_tree t) i) (elim (cases_lt k (length (own_sets (game_of_tree t) i))) [
-    | inl l ↦ absurd (place-found (game_of_tree t) i k l (sym read-is ∙ none))
+    | inl l ↦ absurd (place-found (game_of_tree t) i k l (sym is ∙ none))
     | inr l ↦ omega (arith, l, length-map (own_sets (game_of_tree t) i) (game_of_tree t).actions)
   ])
 
   module _ (s : ℕ) (some : read ≡ Some s) where
     at : slice_get (own_sets (game_of_tree t) i) k ≡ Some s
-    at = sym read-is ∙ some
+    at = sym is ∙ some
 
     pub set-below : s < length t.sets
     set-below = own_set-below (game_of_tree t) i k s at

@@ -35,7 +35,6 @@ use crate::Behaviour;
 use frac128::{Frac, Unfit};
 use game_core::Tree;
 use game_core::tree_parts::stands_for_game_tree;
-use strategy_lists::own_sets_are_those_of_the_tree;
 
 /// What is wrong with the entries of a profile. A group is one player's strategies, or the actions
 /// of one set; places and groups count from 0.
@@ -100,7 +99,6 @@ fn left_by(tree: &Tree, player: u32, count: usize) -> Option<usize>
     ensures { let own = sum (own_counts (game_of_tree tree.now) player) in
         MatchOption result (count < own) (λ left. left + own ≡ count) }
 {
-    own_sets_are_those_of_the_tree();
     let mut left = count;
     let mut number = 0;
     while let Some(set) = tree.own_sets(player, number) {
@@ -144,7 +142,6 @@ fn test_player(
         refused_by fault_of (all_pass (tests_from entries.now place group own))
         (map_ok result (λ _. tt)) }
 {
-    own_sets_are_those_of_the_tree();
     let mut here = place;
     let mut number = 0;
     while let Some(set) = tree.own_sets(player, number) {

@@ -11,8 +11,6 @@
 #![tactic(auto)]
 
 ghost use Rattle.std.specs.Prelude.{◌≡◌, ◌++◌, length, map, IfOk, OnOk};
-ghost use Rattle.game_theory.specs.Lines.{listed};
-ghost use Rattle.game_theory.specs.Mixed.{sure};
 ghost use Rattle.game_theory.specs.Profiles.{IsProfile};
 ghost use Rattle.game_theory.specs.Behaviour.{pure};
 ghost use Rattle.game_core.specs.TreeGame.{game_of_tree};
@@ -30,12 +28,11 @@ pub use entries::{
     tested_entries_are_profiles,
 };
 use frac128::{Frac, Memory};
-use game_core::Tree;
+use game_core::{Tree, push_sure};
 pub use plans::{BehaviourStop, plan_behaviours_are_single};
 use reduced_form::Reduced;
 use std::alloc::Global;
 use std::marker::Model;
-use strategy_lists::own_sets_are_those_of_the_tree;
 
 /// Behaviour on a tree. Contracts see it as the list of its entries: player by player, each player's own sets in
 /// order, and the probability of each action in order.
@@ -113,28 +110,12 @@ fn push_player(
         ++ own_entries (game_of_tree tree.now)
         (pure (first_for_none (game_of_tree tree.now) player strategy.now)) player) }
 {
-    own_sets_are_those_of_the_tree();
     let sets = tree.sets();
     for place in 0..strategy.len() {
         if let Some(set) = tree.own_sets(player, place as u32) {
             let chosen = (strategy[place] as usize).saturating_sub(1);
-            push_set(entries, sets[set as usize].actions().len(), chosen)?;
+            push_sure(entries, sets[set as usize].actions().len(), chosen)?;
         }
-    }
-    Ok(())
-}
-
-// Adds the entries of a set with so many actions: 1 for the chosen action, which counts from 0, and 0 for the others.
-fn push_set(entries: &mut Vec<Frac>, actions: usize, chosen: usize) -> Result<(), Memory>
-    ensures { OnOk result (entries.new.items ≡ entries.old.items ++ listed actions (sure chosen)) }
-{
-    for action in 0..actions {
-        let entry = if action == chosen {
-            Frac::one()
-        } else {
-            Frac::zero()
-        };
-        entries.push(entry)?;
     }
     Ok(())
 }

@@ -34,7 +34,6 @@ use game_core::Tree;
 use game_core::tree_parts::stands_for_game_tree;
 use sequence_data::{SeqForm, SetRow, Side};
 use std::alloc::{AllocFailed, Global};
-use strategy_lists::own_sets_are_those_of_the_tree;
 
 /// Why there is no behaviour of two plans.
 #[derive(Clone, Copy, Debug, PartialEq, Eq)]
@@ -113,7 +112,6 @@ fn label(tree: &Tree, player: u32, place: u32) -> u64
     ensures { let sets = own_sets (game_of_tree tree.now) player in
         result ≡ label_of tree.now (slice_index sets place) }
 {
-    own_sets_are_those_of_the_tree();
     match tree.own_sets(player, place) {
         Some(set) => tree.sets()[set as usize].label(),
         None => 0,

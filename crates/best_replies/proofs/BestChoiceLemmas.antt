@@ -86,7 +86,7 @@ module _ (t : Tree) (b other : Behaviour) (i : ℕ) (choice : ℕ → ℕ) (w : 
       let step = step-to t c s w leads.0 l leads.1.0 in
       let reached : reach t other (t.parent c) ≡ weight t b i c *ℚ own_probability other (own_history t i m) =
       reach-parts t i b other w alike (t.parent c) step.parent_below
-      ∙ ap₂ (λ x y. x *ℚ own_probability other y) (sym (weight-own t b i c s w leads.0 l leads.1.0 o)) (recall s (t.parent c) m o step.parent_below n leads.1.0 e) in
+      ∙ ap₂ (λ x y. x *ℚ own_probability other y) (sym (weight-own t b i c s w leads.0 l leads.1.0 o)) (recall s o (t.parent c) m step.parent_below n leads.1.0 e) in
       let first : branch_probability t other c ≡ other s a = branch-own t other i c s leads.1.0 o ∙ ap (other s) leads.1.1 in
       let second : branch_probability t (reply t b i choice) c ≡ sure (choice s) a =
       branch-own t (reply t b i choice) i c s leads.1.0 o ∙ if_own t i s (sure (choice s) (t.branch c)) (b s (t.branch c)) o ∙ ap (sure (choice s)) leads.1.1 in

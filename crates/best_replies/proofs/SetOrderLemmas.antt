@@ -89,9 +89,9 @@ module _ (t : Tree) (i : ℕ) (w : IsTree t) (recall : HasPerfectRecall t i) (nu
       let above = has_set-above t i r w l inside h in
       elim (cases_eq s r) [
         | inl same ↦ let at : t.set above.0 ≡ Some s = above.2 ∙ ap Some (sym same) in
-            no_later_set r s o order n above.0 (omega (arith, above.1)) (omega (arith, above.1)) at (subst (HasSet r) (recall s l above.0 o inside (omega (arith, above.1)) e at) h)
+            no_later_set r s o order n above.0 (omega (arith, above.1)) (omega (arith, above.1)) at (subst (HasSet r) (recall s o l above.0 inside (omega (arith, above.1)) e at) h)
         | inr apart ↦ let before = numbered above.0 r s (omega (arith, above.1)) above.2 (omega arith) in
-            no_later_set r s o order n before.0 (omega (arith, above.1, before.1)) (omega (arith, above.1, before.1)) before.2 (subst (HasSet r) (recall s l before.0 o inside (omega (arith, above.1, before.1)) e before.2) h)
+            no_later_set r s o order n before.0 (omega (arith, above.1, before.1)) (omega (arith, above.1, before.1)) before.2 (subst (HasSet r) (recall s o l before.0 inside (omega (arith, above.1, before.1)) e before.2) h)
       ]
 
 -- under perfect recall sets that are numbered by their first nodes ascend on each path

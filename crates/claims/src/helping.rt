@@ -8,30 +8,24 @@ ghost use Rattle.claims.specs.Pieces.{AreDone, AreOf, IsAtWork, IsHelped};
 
 use crate::claim_word::{ALL_PARTS, Claims, Pass};
 use crate::helpers::Helpers;
-use crate::sharing::in_order;
+use crate::sharing::{Work, in_order};
 use answers::Memory;
 use outside::Gate;
 use std::alloc::Global;
 use std::marker::{Send, Sync};
 use std::thread::{Threads, join_mut, spawn};
 
-// How many pieces a worker computes before it looks for helpers again.
-const PIECES_ALONE: usize = 16;
+/// How many pieces a worker computes before it looks for helpers again.
+pub const PIECES_ALONE: usize = 16;
 
 // How many bytes a worker takes and gives back before it is helped, and a helper before it begins.
 const ROOM: usize = 4194304;
 
-// Work whose pieces are numbered below a count: the claim word of the numbers, what each piece
-// gives, the gate, and the helpers.
+// Work, and the helpers who may join in.
 #[derive(Drop)]
 pub(crate) struct Job<'a, R, F, G> {
-    rt: &'a R,
-    alloc: Global,
-    claims: &'a Claims,
-    count: usize,
+    work: Work<'a, R, F, G>,
     helpers: &'a Helpers,
-    gate: &'a G,
-    f: &'a F,
 }
 
 /// The list `f(0)` to `f(count - 1)`, computed by the calling thread and by helpers. A helper joins
@@ -66,15 +60,15 @@ pub fn helped_map<R: Threads + Sync, T: Send + Drop, F: Fn(usize) -> T + Sync, G
     if helpers.are_free_for(count) {
         start_idle_thread(rt);
     }
-    let job = Job {
+    let work = Work {
         rt,
         alloc,
         claims,
         count,
-        helpers,
         gate,
         f,
     };
+    let job = Job { work, helpers };
     helped(&job, count, pass, &mut pieces)?;
     in_order(alloc, pieces)
 }
@@ -110,21 +104,21 @@ fn helped<R: Threads + Sync, T: Send + Drop, F: Fn(usize) -> T + Sync, G: Gate>(
     pass: &mut Pass,
     pieces: &mut Vec<(usize, T)>,
 ) -> Result<(), Memory>
-    requires work { IsAtWork F.Fn job.now.f.now job.now.count job.now.claims.now
+    requires work { IsAtWork F.Fn job.now.work.f.now job.now.work.count job.now.work.claims.now
         pass.old pieces.old.items }
-    requires count { job.now.count < 2 ^ 32 }
-    requires accepts { (k : ℕ) → k < job.now.count → F.pre job.now.f.now k }
-    ensures pass { IsHelped job.now.count 1 pass.old pass.new }
+    requires count { job.now.work.count < 2 ^ 32 }
+    requires accepts { (k : ℕ) → k < job.now.work.count → F.pre job.now.work.f.now k }
+    ensures pass { IsHelped job.now.work.count 1 pass.old pass.new }
     ensures pieces { OnOk result
-        (AreDone F.Fn job.now.f.now job.now.count pass.new.claimed pieces.new.items) }
+        (AreDone F.Fn job.now.work.f.now job.now.work.count pass.new.claimed pieces.new.items) }
 {
     let mut left = left;
-    for _ in 0..job.count / PIECES_ALONE + 1 {
+    for _ in 0..job.work.count / PIECES_ALONE + 1 {
         let parts = pass.parts();
         if parts > 1 && job.helpers.take_for(share(left, parts)) {
             return halved(job, left, pass, pieces);
         }
-        match worked(job, pass, pieces)? {
+        match worked(&job.work, pass, pieces)? {
             Some(more) => left = more,
             None => return Ok(()),
         }
@@ -140,16 +134,16 @@ fn halved<R: Threads + Sync, T: Send + Drop, F: Fn(usize) -> T + Sync, G: Gate>(
     pass: &mut Pass,
     pieces: &mut Vec<(usize, T)>,
 ) -> Result<(), Memory>
-    requires work { IsAtWork F.Fn job.now.f.now job.now.count job.now.claims.now
+    requires work { IsAtWork F.Fn job.now.work.f.now job.now.work.count job.now.work.claims.now
         pass.old pieces.old.items }
     requires parts { 1 < pass.old.parts }
-    requires count { job.now.count < 2 ^ 32 }
-    requires accepts { (k : ℕ) → k < job.now.count → F.pre job.now.f.now k }
-    ensures pass { IsHelped job.now.count 2 pass.old pass.new }
+    requires count { job.now.work.count < 2 ^ 32 }
+    requires accepts { (k : ℕ) → k < job.now.work.count → F.pre job.now.work.f.now k }
+    ensures pass { IsHelped job.now.work.count 2 pass.old pass.new }
     ensures pieces { OnOk result
-        (AreDone F.Fn job.now.f.now job.now.count pass.new.claimed pieces.new.items) }
+        (AreDone F.Fn job.now.work.f.now job.now.work.count pass.new.claimed pieces.new.items) }
 {
-    let mut rest = room_for(job.alloc, left / 2);
+    let mut rest = room_for(job.work.alloc, left / 2);
     let (first, second) = in_halves(job, left, pass, pieces, &mut rest);
     first?;
     second?;
@@ -168,20 +162,20 @@ fn in_halves<R: Threads + Sync, T: Send + Drop, F: Fn(usize) -> T + Sync, G: Gat
     pieces: &mut Vec<(usize, T)>,
     rest: &mut Vec<(usize, T)>,
 ) -> (Result<(), Memory>, Result<(), Memory>)
-    requires work { IsAtWork F.Fn job.now.f.now job.now.count job.now.claims.now
+    requires work { IsAtWork F.Fn job.now.work.f.now job.now.work.count job.now.work.claims.now
         pass.old pieces.old.items }
     requires parts { 1 < pass.old.parts }
     requires none { rest.old.items ≡ [] }
-    requires count { job.now.count < 2 ^ 32 }
-    requires accepts { (k : ℕ) → k < job.now.count → F.pre job.now.f.now k }
-    ensures pass { IsHelped job.now.count 2 pass.old pass.new }
-    ensures pieces { OnOk result.0 (OnOk result.1 (AreDone F.Fn job.now.f.now job.now.count
+    requires count { job.now.work.count < 2 ^ 32 }
+    requires accepts { (k : ℕ) → k < job.now.work.count → F.pre job.now.work.f.now k }
+    ensures pass { IsHelped job.now.work.count 2 pass.old pass.new }
+    ensures pieces { OnOk result.0 (OnOk result.1 (AreDone F.Fn job.now.work.f.now job.now.work.count
         pass.new.claimed (pieces.new.items ++ rest.new.items))) }
 {
     let theirs = pass.parts() / 2;
-    let mut other = job.claims.split(pass, theirs);
+    let mut other = job.work.claims.split(pass, theirs);
     let both = both_helped(job, left, pass, pieces, &mut other, rest);
-    job.claims.join(pass, other);
+    job.work.claims.join(pass, other);
     job.helpers.add(1);
     both
 }
@@ -197,48 +191,48 @@ fn both_helped<R: Threads + Sync, T: Send + Drop, F: Fn(usize) -> T + Sync, G: G
     other: &mut Pass,
     rest: &mut Vec<(usize, T)>,
 ) -> (Result<(), Memory>, Result<(), Memory>)
-    requires work { IsAtWork F.Fn job.now.f.now job.now.count job.now.claims.now
+    requires work { IsAtWork F.Fn job.now.work.f.now job.now.work.count job.now.work.claims.now
         pass.old pieces.old.items }
-    requires other { IsAtWork F.Fn job.now.f.now job.now.count job.now.claims.now
+    requires other { IsAtWork F.Fn job.now.work.f.now job.now.work.count job.now.work.claims.now
         other.old rest.old.items }
-    requires count { job.now.count < 2 ^ 32 }
-    requires accepts { (k : ℕ) → k < job.now.count → F.pre job.now.f.now k }
-    ensures pass { IsHelped job.now.count 1 pass.old pass.new }
-    ensures other { IsHelped job.now.count 1 other.old other.new }
+    requires count { job.now.work.count < 2 ^ 32 }
+    requires accepts { (k : ℕ) → k < job.now.work.count → F.pre job.now.work.f.now k }
+    ensures pass { IsHelped job.now.work.count 1 pass.old pass.new }
+    ensures other { IsHelped job.now.work.count 1 other.old other.new }
     ensures first { OnOk result.0
-        (AreDone F.Fn job.now.f.now job.now.count pass.new.claimed pieces.new.items) }
+        (AreDone F.Fn job.now.work.f.now job.now.work.count pass.new.claimed pieces.new.items) }
     ensures second { OnOk result.1
-        (AreDone F.Fn job.now.f.now job.now.count other.new.claimed rest.new.items) }
+        (AreDone F.Fn job.now.work.f.now job.now.work.count other.new.claimed rest.new.items) }
 {
     let mut back = || -> Result<(), Memory>
         requires shared { IsSync R.row × IsSync F.row × IsSync G.row × IsSend T.row }
-        requires work { IsAtWork F.Fn job.now.f.now job.now.count job.now.claims.now
+        requires work { IsAtWork F.Fn job.now.work.f.now job.now.work.count job.now.work.claims.now
             pass.now pieces.now.items }
-        requires count { job.now.count < 2 ^ 32 }
-        requires accepts { (k : ℕ) → k < job.now.count → F.pre job.now.f.now k }
-        ensures pass { IsHelped job.entry.now.count 1 pass.entry.now pass.exit.now }
+        requires count { job.now.work.count < 2 ^ 32 }
+        requires accepts { (k : ℕ) → k < job.now.work.count → F.pre job.now.work.f.now k }
+        ensures pass { IsHelped job.entry.now.work.count 1 pass.entry.now pass.exit.now }
         ensures pieces { OnOk result
-            (AreDone F.Fn job.entry.now.f.now job.entry.now.count
+            (AreDone F.Fn job.entry.now.work.f.now job.entry.now.work.count
             pass.exit.now.claimed pieces.exit.now.items) }
     {
-        make_room(job.alloc);
+        make_room(job.work.alloc);
         helped(job, left, pass, pieces)
     };
     let mut front = || -> Result<(), Memory>
         requires shared { IsSync R.row × IsSync F.row × IsSync G.row × IsSend T.row }
-        requires work { IsAtWork F.Fn job.now.f.now job.now.count job.now.claims.now
+        requires work { IsAtWork F.Fn job.now.work.f.now job.now.work.count job.now.work.claims.now
             other.now rest.now.items }
-        requires count { job.now.count < 2 ^ 32 }
-        requires accepts { (k : ℕ) → k < job.now.count → F.pre job.now.f.now k }
-        ensures pass { IsHelped job.entry.now.count 1 other.entry.now other.exit.now }
+        requires count { job.now.work.count < 2 ^ 32 }
+        requires accepts { (k : ℕ) → k < job.now.work.count → F.pre job.now.work.f.now k }
+        ensures pass { IsHelped job.entry.now.work.count 1 other.entry.now other.exit.now }
         ensures pieces { OnOk result
-            (AreDone F.Fn job.entry.now.f.now job.entry.now.count
+            (AreDone F.Fn job.entry.now.work.f.now job.entry.now.work.count
             other.exit.now.claimed rest.exit.now.items) }
     {
-        make_room(job.alloc);
+        make_room(job.work.alloc);
         helped(job, 0, other, rest)
     };
-    let (second, first) = join_mut(job.rt, &mut front, &mut back);
+    let (second, first) = join_mut(job.work.rt, &mut front, &mut back);
     (first, second)
 }
 
@@ -252,19 +246,19 @@ pub fn make_room(alloc: Global) {
 // The next pieces that one worker claims, 16 of them, and how many numbers are above the last of
 // these; `None` where no piece is left to claim.
 fn worked<R, T: Drop, F: Fn(usize) -> T, G: Gate>(
-    job: &Job<R, F, G>,
+    work: &Work<R, F, G>,
     pass: &mut Pass,
     pieces: &mut Vec<(usize, T)>,
 ) -> Result<Option<usize>, Memory>
-    requires work { IsAtWork F.Fn job.now.f.now job.now.count job.now.claims.now
+    requires work { IsAtWork F.Fn work.now.f.now work.now.count work.now.claims.now
         pass.old pieces.old.items }
-    requires count { job.now.count < 2 ^ 32 }
-    requires accepts { (k : ℕ) → k < job.now.count → F.pre job.now.f.now k }
-    ensures same { pass.new ≡ pass_state job.now.claims.now pass.old.parts pass.new.claimed }
+    requires count { work.now.count < 2 ^ 32 }
+    requires accepts { (k : ℕ) → k < work.now.count → F.pre work.now.f.now k }
+    ensures same { pass.new ≡ pass_state work.now.claims.now pass.old.parts pass.new.claimed }
     ensures whole { KnowsWhole pass.new.parts pass.new.claimed }
     ensures few { length pass.new.claimed ≤ length pass.old.claimed + 16 }
     ensures of { OnOk result
-        (AreOf F.Fn job.now.f.now job.now.count pass.new.claimed pieces.new.items) }
+        (AreOf F.Fn work.now.f.now work.now.count pass.new.claimed pieces.new.items) }
     ensures more { IfOk result (λ left. IfSome left (λ _. length pass.new.claimed
         ≡ length pass.old.claimed + 16)) }
     ensures done { IfOk result (λ left. IfNone left
@@ -273,13 +267,13 @@ fn worked<R, T: Drop, F: Fn(usize) -> T, G: Gate>(
     let mut left = 0;
     for _ in 0..PIECES_ALONE {
         pieces.reserve(1)?;
-        let number = job.claims.claim(pass) as usize;
-        if number >= job.count {
+        let number = work.claims.claim(pass) as usize;
+        if number >= work.count {
             return Ok(None);
         }
-        job.gate.pass(number);
-        pieces.push((number, (job.f)(number)))?;
-        left = job.count - number - 1;
+        work.gate.pass(number);
+        pieces.push((number, (work.f)(number)))?;
+        left = work.count - number - 1;
     }
     Ok(Some(left))
 }

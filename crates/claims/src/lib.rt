@@ -19,5 +19,5 @@ mod sharing;
 
 pub use claim_word::{Claims, Pass};
 pub use helpers::{FEWEST_SHARED, Helpers};
-pub use helping::{helped_map, make_room};
+pub use helping::{PIECES_ALONE, helped_map, make_room};
 pub use sharing::shared_map;

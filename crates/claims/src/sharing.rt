@@ -14,6 +14,18 @@ use std::alloc::Global;
 use std::marker::{Send, Sync};
 use std::thread::{Threads, join_mut};
 
+// Work whose pieces are numbered below a count: the claim word of the numbers, what each piece
+// gives, and the gate.
+#[derive(Drop)]
+pub(crate) struct Work<'a, R, F, G> {
+    pub rt: &'a R,
+    pub alloc: Global,
+    pub claims: &'a Claims,
+    pub count: usize,
+    pub gate: &'a G,
+    pub f: &'a F,
+}
+
 /// The list `f(0)` to `f(count - 1)`, computed by so many workers, each in a thread of its own
 /// where one can be made. The workers claim the numbers from the claim word, and pass the gate
 /// before each piece. The pass has all 64 parts and has claimed nothing; whatever the answer, it
@@ -39,7 +51,15 @@ pub fn shared_map<R: Threads + Sync, T: Send + Drop, F: Fn(usize) -> T + Sync, G
     ensures len { IfOk result (λ v. vec_len v ≡ count) }
     ensures each { IfOk result (λ v. GivesEach F.Fn f.now count v.items) }
 {
-    let pieces = shared_among(rt, alloc, claims, count, workers, gate, f, pass)?;
+    let work = Work {
+        rt,
+        alloc,
+        claims,
+        count,
+        gate,
+        f,
+    };
+    let pieces = shared_among(&work, workers, pass)?;
     in_order(alloc, pieces)
 }
 
@@ -47,32 +67,26 @@ pub fn shared_map<R: Threads + Sync, T: Send + Drop, F: Fn(usize) -> T + Sync, G
 // each step.
 #[cycle(sharing)]
 fn shared_among<R: Threads + Sync, T: Send + Drop, F: Fn(usize) -> T + Sync, G: Gate>(
-    rt: &R,
-    alloc: Global,
-    claims: &Claims,
-    count: usize,
+    work: &Work<R, F, G>,
     workers: u32,
-    gate: &G,
-    f: &F,
     pass: &mut Pass,
 ) -> Result<Vec<(usize, T)>, Memory>
-    requires pass { IsNewFor claims.now workers pass.old }
-    requires count { count < 2 ^ 32 }
-    requires accepts { (k : ℕ) → k < count → F.pre f.now k }
-    ensures pass { IsUsedBy workers count pass.old pass.new }
+    requires pass { IsNewFor work.now.claims.now workers pass.old }
+    requires count { work.now.count < 2 ^ 32 }
+    requires accepts { (k : ℕ) → k < work.now.count → F.pre work.now.f.now k }
+    ensures pass { IsUsedBy workers work.now.count pass.old pass.new }
     ensures whole { KnowsWhole pass.new.parts pass.new.claimed }
-    ensures pieces { IfOk result (λ v. AreDone F.Fn f.now count pass.new.claimed v.items) }
+    ensures pieces { IfOk result
+        (λ v. AreDone F.Fn work.now.f.now work.now.count pass.new.claimed v.items) }
 {
     if workers == 1 {
-        return worked_alone(alloc, claims, count, gate, f, pass);
+        return worked_alone(work, pass);
     }
     let theirs = workers / 2;
     let ours = workers - theirs;
-    let mut other = claims.split(pass, theirs);
-    let (first, second) = both_halves(
-        rt, alloc, claims, count, gate, f, ours, theirs, pass, &mut other,
-    );
-    claims.join(pass, other);
+    let mut other = work.claims.split(pass, theirs);
+    let (first, second) = both_halves(work, ours, theirs, pass, &mut other);
+    work.claims.join(pass, other);
     let mut pieces = first?;
     let mut rest = second?;
     pieces.append(&mut rest)?;
@@ -83,12 +97,7 @@ fn shared_among<R: Threads + Sync, T: Send + Drop, F: Fn(usize) -> T + Sync, G: 
 // that what the closures require is what this function is given.
 #[cycle(sharing)]
 fn both_halves<R: Threads + Sync, T: Send + Drop, F: Fn(usize) -> T + Sync, G: Gate>(
-    rt: &R,
-    alloc: Global,
-    claims: &Claims,
-    count: usize,
-    gate: &G,
-    f: &F,
+    work: &Work<R, F, G>,
     ours: u32,
     theirs: u32,
     pass: &mut Pass,
@@ -97,61 +106,62 @@ fn both_halves<R: Threads + Sync, T: Send + Drop, F: Fn(usize) -> T + Sync, G: G
     Result<Vec<(usize, T)>, Memory>,
     Result<Vec<(usize, T)>, Memory>,
 )
-    requires pass { IsNewFor claims.now ours pass.old }
-    requires other { IsNewFor claims.now theirs other.old }
-    requires count { count < 2 ^ 32 }
-    requires accepts { (k : ℕ) → k < count → F.pre f.now k }
-    ensures pass { IsUsedBy ours count pass.old pass.new }
-    ensures other { IsUsedBy theirs count other.old other.new }
-    ensures first { IfOk result.0 (λ v. AreDone F.Fn f.now count pass.new.claimed v.items) }
-    ensures second { IfOk result.1 (λ v. AreDone F.Fn f.now count other.new.claimed v.items) }
+    requires pass { IsNewFor work.now.claims.now ours pass.old }
+    requires other { IsNewFor work.now.claims.now theirs other.old }
+    requires count { work.now.count < 2 ^ 32 }
+    requires accepts { (k : ℕ) → k < work.now.count → F.pre work.now.f.now k }
+    ensures pass { IsUsedBy ours work.now.count pass.old pass.new }
+    ensures other { IsUsedBy theirs work.now.count other.old other.new }
+    ensures first { IfOk result.0
+        (λ v. AreDone F.Fn work.now.f.now work.now.count pass.new.claimed v.items) }
+    ensures second { IfOk result.1
+        (λ v. AreDone F.Fn work.now.f.now work.now.count other.new.claimed v.items) }
 {
     let mut front = || -> Result<Vec<(usize, T)>, Memory>
         requires shared { IsSync R.row × IsSync F.row × IsSync G.row × IsSend T.row }
-        requires pass { IsNewFor claims.now ours pass.now }
-        requires count { count < 2 ^ 32 }
-        requires accepts { (k : ℕ) → k < count → F.pre f.now k }
-        ensures pass { IsUsedBy ours count pass.entry.now pass.exit.now }
+        requires pass { IsNewFor work.now.claims.now ours pass.now }
+        requires count { work.now.count < 2 ^ 32 }
+        requires accepts { (k : ℕ) → k < work.now.count → F.pre work.now.f.now k }
+        ensures pass { IsUsedBy ours work.entry.now.count pass.entry.now pass.exit.now }
         ensures pieces { IfOk result
-            (λ v. AreDone F.Fn f.entry.now count pass.exit.now.claimed v.items) }
-    { shared_among(rt, alloc, claims, count, ours, gate, f, pass) };
+            (λ v. AreDone F.Fn work.entry.now.f.now work.entry.now.count
+            pass.exit.now.claimed v.items) }
+    { shared_among(work, ours, pass) };
     let mut back = || -> Result<Vec<(usize, T)>, Memory>
         requires shared { IsSync R.row × IsSync F.row × IsSync G.row × IsSend T.row }
-        requires pass { IsNewFor claims.now theirs other.now }
-        requires count { count < 2 ^ 32 }
-        requires accepts { (k : ℕ) → k < count → F.pre f.now k }
-        ensures pass { IsUsedBy theirs count other.entry.now other.exit.now }
+        requires pass { IsNewFor work.now.claims.now theirs other.now }
+        requires count { work.now.count < 2 ^ 32 }
+        requires accepts { (k : ℕ) → k < work.now.count → F.pre work.now.f.now k }
+        ensures pass { IsUsedBy theirs work.entry.now.count other.entry.now other.exit.now }
         ensures pieces { IfOk result
-            (λ v. AreDone F.Fn f.entry.now count other.exit.now.claimed v.items) }
-    { shared_among(rt, alloc, claims, count, theirs, gate, f, other) };
-    join_mut(rt, &mut front, &mut back)
+            (λ v. AreDone F.Fn work.entry.now.f.now work.entry.now.count
+            other.exit.now.claimed v.items) }
+    { shared_among(work, theirs, other) };
+    join_mut(work.rt, &mut front, &mut back)
 }
 
 // The pieces that one worker claims, in the order in which it claims them.
-fn worked_alone<T: Drop, F: Fn(usize) -> T, G: Gate>(
-    alloc: Global,
-    claims: &Claims,
-    count: usize,
-    gate: &G,
-    f: &F,
+fn worked_alone<R, T: Drop, F: Fn(usize) -> T, G: Gate>(
+    work: &Work<R, F, G>,
     pass: &mut Pass,
 ) -> Result<Vec<(usize, T)>, Memory>
-    requires pass { IsNewFor claims.now 1 pass.old }
-    requires count { count < 2 ^ 32 }
-    requires accepts { (k : ℕ) → k < count → F.pre f.now k }
-    ensures pass { IsUsedBy 1 count pass.old pass.new }
+    requires pass { IsNewFor work.now.claims.now 1 pass.old }
+    requires count { work.now.count < 2 ^ 32 }
+    requires accepts { (k : ℕ) → k < work.now.count → F.pre work.now.f.now k }
+    ensures pass { IsUsedBy 1 work.now.count pass.old pass.new }
     ensures whole { KnowsWhole pass.new.parts pass.new.claimed }
-    ensures pieces { IfOk result (λ v. AreDone F.Fn f.now count pass.new.claimed v.items) }
+    ensures pieces { IfOk result
+        (λ v. AreDone F.Fn work.now.f.now work.now.count pass.new.claimed v.items) }
 {
-    let mut pieces = Vec::new(alloc);
-    for _ in 0..count + 1 {
+    let mut pieces = Vec::new(work.alloc);
+    for _ in 0..work.count + 1 {
         pieces.reserve(1)?;
-        let number = claims.claim(pass) as usize;
-        if number >= count {
+        let number = work.claims.claim(pass) as usize;
+        if number >= work.count {
             return Ok(pieces);
         }
-        gate.pass(number);
-        pieces.push((number, f(number)))?;
+        work.gate.pass(number);
+        pieces.push((number, (work.f)(number)))?;
     }
     Ok(pieces)
 }

@@ -48,9 +48,9 @@ counted_fault {Y} (Err fault) kind left e =
     (fault.1, ap (λ (k : EfgKind). Err (k, fault.1)) (ap (λ (f : EfgKind × ℕ). f.0) same), ap (λ (f : EfgKind × ℕ). f.1) same)
 
 -- a fault of the file, which passes no limit
-fault_stop : (tokens : TokenList) (kind : EfgKind) (rest : List Token) (stop : EfgStop) → length (bare tokens) < 2 ^ 32 → parse_tree (bare tokens) ≡ Err (inl (kind, rest)) → ((what : What) → PassesLimit (bare tokens) what → ⊥)
+fault_stop : (tokens : TokenList) (kind : EfgKind) (rest : List Token) (stop : EfgStop) → length (bare tokens.list) < 2 ^ 32 → parse_tree (bare tokens.list) ≡ Err (inl (kind, rest)) → ((what : What) → PassesLimit (bare tokens.list) what → ⊥)
     → stop ≡ stops.Fault (record { at = offset_of tokens (length rest); kind = kind }) → Gives stops.Memory (tree_in tokens) (Err stop)
-fault_stop tokens kind rest stop few e none s = subst (λ x. Gives stops.Memory (tree_in tokens) (Err x)) (sym s) (inr ((rest, stop_is_fault (bare tokens) kind rest few e, refl), none))
+fault_stop tokens kind rest stop few e none s = subst (λ x. Gives stops.Memory (tree_in tokens) (Err x)) (sym s) (inr ((rest, stop_is_fault (bare tokens.list) kind rest few e, refl), none))
 
 -- a fault of the front is one of the file
 front_fault : (tokens : List Token) (kind : EfgKind) (rest : List Token) → parse_front tokens ≡ Err (kind, rest) → parse_tree tokens ≡ Err (inl (kind, rest))
@@ -58,16 +58,16 @@ unfolding parse_tree
 front_fault tokens kind rest e = rw e refl
 
 -- a stop for a front that is not read
-pub front_stop : (tokens : TokenList) (stopped : PartStop EfgKind) (stop : EfgStop) → length tokens.list < 2 ^ 32 → IsPartStop stopped (parse_front (bare tokens)) → IsEfgStop stopped tokens stop → Gives stops.Memory (tree_in tokens) (Err stop)
+pub front_stop : (tokens : TokenList) (stopped : PartStop EfgKind) (stop : EfgStop) → length tokens.list < 2 ^ 32 → IsPartStop stopped (parse_front (bare tokens.list)) → IsEfgStop stopped tokens stop → Gives stops.Memory (tree_in tokens) (Err stop)
 front_stop tokens part_stops.Memory stop few r s = inl s
 front_stop tokens (part_stops.Unexpected kind left) stop few r s =
-    let f = counted_fault (parse_front (bare tokens)) kind left r in
-    let none = no_front_is_nothing (bare tokens) (kind, f.0) f.1 in
-    let t = front_fault (bare tokens) kind f.0 f.1 in
+    let f = counted_fault (parse_front (bare tokens.list)) kind left r in
+    let none = no_front_is_nothing (bare tokens.list) (kind, f.0) f.1 in
+    let t = front_fault (bare tokens.list) kind f.0 f.1 in
     fault_stop tokens kind f.0 stop (rw (length-map tokens.list (λ s. s.token)) few) t none.no_limit (s ∙ ap (λ (n : ℕ). stops.Fault (record { at = offset_of tokens n; kind = kind })) (sym f.2))
 
 -- the limit that is passed
-passed_stop : (tokens : TokenList) (passed : What) (stop : EfgStop) → PassesLimit (bare tokens) passed → IsNodesStop (Passed passed) tokens stop → Gives stops.Memory (tree_in tokens) (Err stop)
+passed_stop : (tokens : TokenList) (passed : What) (stop : EfgStop) → PassesLimit (bare tokens.list) passed → IsNodesStop (Passed passed) tokens stop → Gives stops.Memory (tree_in tokens) (Err stop)
 passed_stop tokens what.Nodes stop p s = subst (λ x. Gives stops.Memory (tree_in tokens) (Err x)) (sym s) (inr (inl (refl, p)))
 passed_stop tokens what.Depth stop p s = subst (λ x. Gives stops.Memory (tree_in tokens) (Err x)) (sym s) (inr (inr (refl, p)))
 passed_stop tokens _ stop p s = absurd p.passes
@@ -85,15 +85,15 @@ unfolding parse_tree
 body_fault tokens x kind rest left e f n = rw (e, f, in_nodes_at kind rest left n) refl
 
 -- a stop for nodes that are not read
-pub nodes_stop : (tokens : TokenList) (x : FrontPart × List Token) (stopped : NodesStop) (stop : EfgStop) → length tokens.list < 2 ^ 32 → parse_front (bare tokens) ≡ Ok x
+pub nodes_stop : (tokens : TokenList) (x : FrontPart × List Token) (stopped : NodesStop) (stop : EfgStop) → length tokens.list < 2 ^ 32 → parse_front (bare tokens.list) ≡ Ok x
     → IsStop stopped (parse_all_nodes (length x.0.1) x.1) → IsNodesStop stopped tokens stop → Gives stops.Memory (tree_in tokens) (Err stop)
 nodes_stop tokens x (Refused part_stops.Memory) stop few e h s = inl s
 nodes_stop tokens x (Refused (part_stops.Unexpected kind left)) stop few e h s =
-    let none = no_nodes_are_nothing (bare tokens) x (kind, h.0) e h.1 in
-    let t = body_fault (bare tokens) x kind h.0 left e h.1 h.2 in
+    let none = no_nodes_are_nothing (bare tokens.list) x (kind, h.0) e h.1 in
+    let t = body_fault (bare tokens.list) x kind h.0 left e h.1 h.2 in
     fault_stop tokens (kind_in_nodes kind left) h.0 stop (rw (length-map tokens.list (λ s. s.token)) few) t none.no_limit (s ∙ ap (λ (n : ℕ). stops.Fault (record { at = offset_of tokens n; kind = kind_in_nodes kind left })) (sym h.2))
 nodes_stop tokens x (Passed passed) stop few e h s =
-    passed_stop tokens passed stop (met_is_passed (bare tokens) x passed (few_players (bare tokens) x (rw (length-map tokens.list (λ s. s.token)) few) e) e h) s
+    passed_stop tokens passed stop (met_is_passed (bare tokens.list) x passed (few_players (bare tokens.list) x (rw (length-map tokens.list (λ s. s.token)) few) e) e h) s
 
 -- ---- the tree
 -- so players are few
@@ -108,24 +108,24 @@ pub read_tree : (list : List Spanned) (x : FrontPart × List Token) (partial : P
 read_tree list x partial few e f = (read_file list x partial few e f).describe.partial
 
 -- a tree that has been made is that of the file
-pub made_tree : (result : Result GameTree EfgStop) (tokens : TokenList) (tree : GameTree) → IfOk result (λ t. t ≡ tree) → IfErr result (λ stop. stop ≡ stops.Memory) → IsTreeFile (bare tokens) tree → Gives stops.Memory (tree_in tokens) result
-made_tree (Ok t) tokens tree e m f = subst (IsTreeFile (bare tokens)) (sym e) f
+pub made_tree : (result : Result GameTree EfgStop) (tokens : TokenList) (tree : GameTree) → IfOk result (λ t. t ≡ tree) → IfErr result (λ stop. stop ≡ stops.Memory) → IsTreeFile (bare tokens.list) tree → Gives stops.Memory (tree_in tokens) result
+made_tree (Ok t) tokens tree e m f = subst (IsTreeFile (bare tokens.list)) (sym e) f
 made_tree (Err stop) tokens tree e m f = inl m
 
 -- ---- faults of a source
 -- at most one
 pub one_fault_at : (tokens : TokenList) (kind other : EfgKind) (at place : ℕ) → IsFault tokens kind at → IsFault tokens other place → (kind ≡ other) × (at ≡ place)
 one_fault_at tokens kind other at place f g =
-    let same = one_fault (bare tokens) kind other f.0 g.0 f.1 g.1 in
+    let same = one_fault (bare tokens.list) kind other f.0 g.0 f.1 g.1 in
     (same.0, f.2 ∙ ap (λ (q : List Token). offset_of tokens (length q)) same.1 ∙ sym g.2)
 
 -- none of a file
-pub no_fault_of_file : (tokens : TokenList) (kind : EfgKind) (at : ℕ) → IsFile (bare tokens) → IsFault tokens kind at → ⊥
-no_fault_of_file tokens kind at file f = file_is_faultless (bare tokens) kind f.0 file f.1
+pub no_fault_of_file : (tokens : TokenList) (kind : EfgKind) (at : ℕ) → IsFile (bare tokens.list) → IsFault tokens kind at → ⊥
+no_fault_of_file tokens kind at file f = file_is_faultless (bare tokens.list) kind f.0 file f.1
 
 -- one of any other
-pub fault_of_others : (tokens : TokenList) → length tokens.list < 2 ^ 32 → IsFile (bare tokens) ⊎ ((kind : EfgKind) × (at : ℕ) × IsFault tokens kind at)
-fault_of_others tokens few = elim (fault_or_file (bare tokens) (rw (length-map tokens.list (λ s. s.token)) few)) [
+pub fault_of_others : (tokens : TokenList) → length tokens.list < 2 ^ 32 → IsFile (bare tokens.list) ⊎ ((kind : EfgKind) × (at : ℕ) × IsFault tokens kind at)
+fault_of_others tokens few = elim (fault_or_file (bare tokens.list) (rw (length-map tokens.list (λ s. s.token)) few)) [
   | inl f ↦ inl f
   | inr f ↦ inr (f.0, offset_of tokens (length f.1), (f.1, f.2, refl))
 ]
@@ -152,16 +152,16 @@ same_stop : (at place : ℕ) (kind other : EfgKind) → at ≡ place → kind �
 same_stop at place kind other a k = ap (λ at. stops.Fault (record { at = at; kind = kind })) a ∙ ap (λ kind. stops.Fault (record { at = place; kind = kind })) k
 
 pub tree_in-single : (tokens : TokenList) → IsSingle (tree_in tokens)
-tree_in-single tokens (Ok one) (Ok other) h k = ap Ok (one_tree (bare tokens) one other h k)
+tree_in-single tokens (Ok one) (Ok other) h k = ap Ok (one_tree (bare tokens.list) one other h k)
 tree_in-single tokens (Ok one) (Err (stops.Fault fault)) h k = absurd (no_fault_of_file tokens fault.kind fault.at (one, h) k.0)
-tree_in-single tokens (Ok one) (Err (stops.TooLarge limit)) h k = absurd (no_limit (bare tokens) one limit h k)
+tree_in-single tokens (Ok one) (Err (stops.TooLarge limit)) h k = absurd (no_limit (bare tokens.list) one limit h k)
 tree_in-single tokens (Err (stops.Fault fault)) (Ok other) h k = absurd (no_fault_of_file tokens fault.kind fault.at (other, k) h.0)
 tree_in-single tokens (Err (stops.Fault fault)) (Err (stops.Fault next)) h k =
     let same = one_fault_at tokens fault.kind next.kind fault.at next.at h.0 k.0 in
     ap Err (same_stop fault.at next.at fault.kind next.kind same.1 same.0)
-tree_in-single tokens (Err (stops.Fault fault)) (Err (stops.TooLarge limit)) h k = (let some = some_limit (bare tokens) limit k in absurd (h.1 some.0 some.1))
-tree_in-single tokens (Err (stops.TooLarge limit)) (Ok other) h k = absurd (no_limit (bare tokens) other limit k h)
-tree_in-single tokens (Err (stops.TooLarge limit)) (Err (stops.Fault fault)) h k = (let some = some_limit (bare tokens) limit h in absurd (k.1 some.0 some.1))
-tree_in-single tokens (Err (stops.TooLarge limit)) (Err (stops.TooLarge next)) h k = ap (λ limit. Err (stops.TooLarge limit)) (passed-same (bare tokens) limit next h k)
+tree_in-single tokens (Err (stops.Fault fault)) (Err (stops.TooLarge limit)) h k = (let some = some_limit (bare tokens.list) limit k in absurd (h.1 some.0 some.1))
+tree_in-single tokens (Err (stops.TooLarge limit)) (Ok other) h k = absurd (no_limit (bare tokens.list) other limit k h)
+tree_in-single tokens (Err (stops.TooLarge limit)) (Err (stops.Fault fault)) h k = (let some = some_limit (bare tokens.list) limit h in absurd (k.1 some.0 some.1))
+tree_in-single tokens (Err (stops.TooLarge limit)) (Err (stops.TooLarge next)) h k = ap (λ limit. Err (stops.TooLarge limit)) (passed-same (bare tokens.list) limit next h k)
 tree_in-single tokens (Err stops.Memory) other h k = absurd h
 tree_in-single tokens one (Err stops.Memory) h k = absurd k

@@ -15,7 +15,7 @@ use Rattle.file_parts.proofs.ParseLemmas.{refused_first}
 use Rattle.file_parts.proofs.ReaderLemmas.{bind_ok, ok_same, err_same, ok_err}
 use Rattle.written_trees.specs.Written.{SetUse, OutcomeUse}
 use Rattle.written_trees.specs.Building.{PartialTree, Branching, PartialSet, PartialOutcome, set_place, outcome_place, passed, new_set, used_set, new_outcome, used_outcome, Choice, with_parts}
-use Rattle.tree_grammar.specs.TreePieces.{begins_node, is_word}
+use Rattle.tree_grammar.specs.TreePieces.{begins_node}
 use Rattle.tree_grammar.specs.TreeParsing.{grown_at, grown, bare_use, parse_first_list, parse_later_list, parse_use, parse_set, parse_player, parse_set_choice, parse_own_choice, parse_after, parse_choice, bare_outcome_use, parse_first_payoffs, parse_later_payoffs, parse_outcome_use, parse_named, parse_outcome, parse_next, parse_at, within_limit}
 use Rattle.tree_grammar.specs.declared.kinds.EfgKind.{EfgKind}
 use Rattle.tree_grammar.specs.declared.kinds.EfgKind.TheVariants.{Node}
@@ -23,6 +23,7 @@ use Rattle.tree_grammar.proofs.NodeStepLemmas.{with_uses}
 use Rattle.std.proofs.lemmas.Option.{same_Some}
 use Rattle.game_core.specs.declared.token.Token.{Token}
 use Rattle.std.proofs.lemmas.Bool.{cases_Bool}
+use Rattle.std.specs.Str.{bytes_eq}
 
 -- no node's word comes
 pub no_word : (players : ℕ) (partial : PartialTree) (branchings : List Branching) (tokens : List Token) (stopped : PartStop EfgKind) → begins_node tokens ≡ false → stopped ≡ part_stops.Unexpected Node (length tokens) → IsStop (Refused stopped) (parse_at players partial branchings tokens)
@@ -115,11 +116,11 @@ unfolding parse_own_choice
 own_choice_adds players k sets tokens x e = let a = bind_ok (parse_player players tokens) _ x e in set_choice_adds k sets (Some a.0.0) a.0.1 x a.2
 
 after_adds : (players k : ℕ) (sets : List PartialSet) (word : List ℕ) (start tokens : List Token) (x : Choice × List Token) → parse_after players k sets word start tokens ≡ Ok x → length x.0.0 ≤ suc (length sets)
-after_adds players k sets word start tokens x e = elim (cases_Bool (is_word word (codes "c"))) [
+after_adds players k sets word start tokens x e = elim (cases_Bool (bytes_eq word (codes "c"))) [
   | inl c ↦ let f : parse_set_choice k sets None tokens ≡ Ok x = rw c at e in set_choice_adds k sets None tokens x f
-  | inr c ↦ elim (cases_Bool (is_word word (codes "p"))) [
+  | inr c ↦ elim (cases_Bool (bytes_eq word (codes "p"))) [
     | inl p ↦ let f : parse_own_choice players k sets tokens ≡ Ok x = rw (c, p) at e in own_choice_adds players k sets tokens x f
-    | inr p ↦ elim (cases_Bool (is_word word (codes "t"))) [
+    | inr p ↦ elim (cases_Bool (bytes_eq word (codes "t"))) [
       | inl t ↦
           let f : ◌≡◌ {A = Parsed EfgKind Choice} (Ok ((sets, (End, None)), tokens)) (Ok x) = rw (c, p, t) at e in
           let same : length sets ≡ length x.0.0 = ap (λ (z : Choice × List Token). length z.0.0) (ok_same _ x f) in

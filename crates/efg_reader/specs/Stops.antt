@@ -29,9 +29,9 @@ IsPassed tokens limit =
 -- The tree of a file, within the limits of trees. A fault comes with its offset and its kind, where the tokens have one and pass no
 -- limit; a limit comes where it is passed.
 abbrev pub tree_in : TokenList → Answer EfgStop GameTree
-tree_in tokens (Ok tree) = IsTreeFile (bare tokens) tree
-tree_in tokens (Err (stops.Fault fault)) = IsFault tokens fault.kind fault.at × ((what : What) → PassesLimit (bare tokens) what → ⊥)
-tree_in tokens (Err (stops.TooLarge limit)) = IsPassed (bare tokens) limit
+tree_in tokens (Ok tree) = IsTreeFile (bare tokens.list) tree
+tree_in tokens (Err (stops.Fault fault)) = IsFault tokens fault.kind fault.at × ((what : What) → PassesLimit (bare tokens.list) what → ⊥)
+tree_in tokens (Err (stops.TooLarge limit)) = IsPassed (bare tokens.list) limit
 tree_in tokens (Err stops.Memory) = ⊥
 
 -- the stop that a part's becomes

@@ -1,12 +1,13 @@
 // The nodes of a file.
 ghost use Rattle.std.specs.Prelude.{◌≡◌, ◌<◌, ◌≢◌, [], true, None, length};
 ghost use Rattle.std.specs.List.{AllByRecursion};
+ghost use Rattle.std.specs.Str.{bytes_eq};
 ghost use Rattle.game_core.specs.Spacing.{IsShortToken};
-ghost use Rattle.file_parts.specs.Reading.{kinds};
+ghost use Rattle.game_core.specs.TokenList.{bare};
 ghost use Rattle.file_parts.specs.Parsing.{Parses};
 ghost use Rattle.game_core.specs.Tree.{kind_of_owner};
 ghost use Rattle.efg_reader.specs.States.{ParsesNodes};
-ghost use Rattle.tree_grammar.specs.TreePieces.{is_word, begins_node};
+ghost use Rattle.tree_grammar.specs.TreePieces.{begins_node};
 ghost use Rattle.tree_grammar.specs.TreeParsing.{parse_set_choice, parse_own_choice, parse_choice, parse_at, parse_all_nodes};
 ghost use Rattle.written_trees.specs.Building.{passed};
 
@@ -50,7 +51,7 @@ impl From<AllocError> for NodesStop {
 
 // Whether a word is this one.
 fn is_word(word: &Name, expected: &[u8]) -> bool
-    ensures { result ≡ is_word word.now expected.now }
+    ensures { result ≡ bytes_eq word.now expected.now }
 {
     word.bytes() == expected
 }
@@ -75,9 +76,9 @@ fn set_choice<'a>(
     tokens: &'a [Spanned],
 ) -> Result<(Sets, Choice, &'a [Spanned]), PartStop<EfgKind>>
     requires few { length sets < 4294967295 }
-    requires short { AllByRecursion IsShortToken (kinds tokens.now) }
-    ensures { Parses (λ x. ((x.0, (x.1.kind, x.1.set)), kinds x.2.now)) result
-        (parse_set_choice number sets owner (kinds tokens.now)) }
+    requires short { AllByRecursion IsShortToken (bare tokens.now) }
+    ensures { Parses (λ x. ((x.0, (x.1.kind, x.1.set)), bare x.2.now)) result
+        (parse_set_choice number sets owner (bare tokens.now)) }
 {
     let (sets, set, rest) = read_set(alloc, sets, owner, number, tokens)?;
     let choice = Choice {
@@ -97,9 +98,9 @@ fn own_choice<'a>(
     tokens: &'a [Spanned],
 ) -> Result<(Sets, Choice, &'a [Spanned]), PartStop<EfgKind>>
     requires few { length sets < 4294967295 }
-    requires short { AllByRecursion IsShortToken (kinds tokens.now) }
-    ensures { Parses (λ x. ((x.0, (x.1.kind, x.1.set)), kinds x.2.now)) result
-        (parse_own_choice players number sets (kinds tokens.now)) }
+    requires short { AllByRecursion IsShortToken (bare tokens.now) }
+    ensures { Parses (λ x. ((x.0, (x.1.kind, x.1.set)), bare x.2.now)) result
+        (parse_own_choice players number sets (bare tokens.now)) }
 {
     let (player, following) = player(tokens, players)?;
     set_choice(alloc, sets, Some(player), number, following)
@@ -116,9 +117,9 @@ fn choice<'a>(
     tokens: &'a [Spanned],
 ) -> Result<(Sets, Choice, &'a [Spanned]), PartStop<EfgKind>>
     requires few { length sets < 4294967295 }
-    requires short { AllByRecursion IsShortToken (kinds tokens.now) }
-    ensures { Parses (λ x. ((x.0, (x.1.kind, x.1.set)), kinds x.2.now)) result
-        (parse_choice players number sets (kinds tokens.now)) }
+    requires short { AllByRecursion IsShortToken (bare tokens.now) }
+    ensures { Parses (λ x. ((x.0, (x.1.kind, x.1.set)), bare x.2.now)) result
+        (parse_choice players number sets (bare tokens.now)) }
 {
     let Some((word, name_on)) = word(tokens) else {
         return Err(unexpected(EfgKind::Node, tokens));
@@ -148,12 +149,12 @@ fn next<'a>(
     players: u32,
     tokens: &'a [Spanned],
 ) -> Result<(Builder, &'a [Spanned]), NodesStop>
-    requires begins { begins_node (kinds tokens.now) ≡ true }
+    requires begins { begins_node (bare tokens.now) ≡ true }
     requires room { passed builder ≡ None }
     requires free { builder.branchings ≢ [] }
-    requires short { AllByRecursion IsShortToken (kinds tokens.now) }
-    ensures { ParsesNodes (λ x. (x.0, kinds x.1.now)) result
-        (parse_at players builder builder.branchings (kinds tokens.now)) }
+    requires short { AllByRecursion IsShortToken (bare tokens.now) }
+    ensures { ParsesNodes (λ x. (x.0, bare x.1.now)) result
+        (parse_at players builder builder.branchings (bare tokens.now)) }
 {
     let Builder {
         nodes,
@@ -183,9 +184,9 @@ fn one_more<'a>(
     tokens: &'a [Spanned],
 ) -> Result<(Builder, &'a [Spanned]), NodesStop>
     requires free { builder.branchings ≢ [] }
-    requires short { AllByRecursion IsShortToken (kinds tokens.now) }
-    ensures { ParsesNodes (λ x. (x.0, kinds x.1.now)) result
-        (parse_at players builder builder.branchings (kinds tokens.now)) }
+    requires short { AllByRecursion IsShortToken (bare tokens.now) }
+    ensures { ParsesNodes (λ x. (x.0, bare x.1.now)) result
+        (parse_at players builder builder.branchings (bare tokens.now)) }
 {
     if !begins_node(tokens) {
         return Err(NodesStop::Refused(unexpected(EfgKind::Node, tokens)));
@@ -198,8 +199,8 @@ fn one_more<'a>(
 
 /// The tree of all nodes of a file, after which it ends.
 pub fn read_nodes(alloc: Global, players: u32, tokens: &[Spanned]) -> Result<Builder, NodesStop>
-    requires short { AllByRecursion IsShortToken (kinds tokens.now) }
-    ensures { ParsesNodes (λ builder. builder) result (parse_all_nodes players (kinds tokens.now)) }
+    requires short { AllByRecursion IsShortToken (bare tokens.now) }
+    ensures { ParsesNodes (λ builder. builder) result (parse_all_nodes players (bare tokens.now)) }
 {
     let mut builder = Builder::new(alloc)?;
     let mut rest = tokens;

@@ -101,8 +101,8 @@ pub fn faults_are_single()
     ensures one { (tokens : TokenList) (kind other : EfgKind) (at offset : ℕ)
         → IsFault tokens kind at
         → IsFault tokens other offset → (kind ≡ other) × (at ≡ offset) }
-    ensures of_no_file { (tokens : TokenList) (kind : EfgKind) (at : ℕ) → IsFile (bare tokens)
+    ensures of_no_file { (tokens : TokenList) (kind : EfgKind) (at : ℕ) → IsFile (bare tokens.list)
         → IsFault tokens kind at → ⊥ }
     ensures of_others { (tokens : TokenList) → length tokens.list < 2 ^ 32
-        → IsFile (bare tokens) ⊎ ((kind : EfgKind) × (at : ℕ) × IsFault tokens kind at) }
+        → IsFile (bare tokens.list) ⊎ ((kind : EfgKind) × (at : ℕ) × IsFault tokens kind at) }
 {}

@@ -27,7 +27,7 @@ use Rattle.extreme_equilibria.specs.Systems.{first_system, second_system}
 use Rattle.extreme_equilibria.specs.PairLines.{scaled_point, HaveAllLabels, pair_line, IsPairLine, ArePairLines}
 use Rattle.extreme_equilibria.proofs.MappedListLemmas.{from-map, into-map}
 use Rattle.extreme_equilibria.proofs.PairLineLemmas.{pair_lines_are_extreme_equilibria, listed_vertices_scale_differently}
-use Rattle.lex_tableau.specs.Starts.{Parts, system_of}
+use Rattle.lex_tableau.specs.Starts.{LinearSystem, system_of}
 use Rattle.reply_polytope.proofs.EnumerableLemmas.{first_count, second_count}
 use Rattle.reply_polytope.proofs.LeastLemmas.{least_below}
 use Rattle.reply_polytope.proofs.PolytopeLemmas.{ArePolytopesOf}
@@ -66,7 +66,7 @@ split (x ∷ a) b [] d e f = absurd (omega arith)
 split (x ∷ a) b (y ∷ c) d e f = let r = split a b c d (omega arith) (cc) in (ap₂ (λ x a. x ∷ a) (cc) r.0, r.1)
 
 -- ---- the least payoff is below each
-module _ (g : Game) (one two : Parts) (p : ArePolytopesOf g one two) where
+module _ (g : Game) (one two : LinearSystem) (p : ArePolytopesOf g one two) where
   number-below : (i j : ℕ) → i < p.m → j < p.n → number_of g.strategies (i ∷ j ∷ []) < profile_count g.strategies
   number-below i j h l =
       subst (λ ns. number_of ns (i ∷ j ∷ []) < profile_count ns) (sym p.strategies) (number_of-below (p.m ∷ p.n ∷ []) (i ∷ j ∷ []) (h, (l, tt)))
@@ -91,7 +91,7 @@ module _ (n : ℕ) (t : Tableau) (list : List MarkedPoint) (h : AreVertices n t 
   scalable =
       record {
         not_negative = λ j b. let c : j < t.width = omega (arith, b, point-length) in subst (λ x. zero_ℚ ≤ℚ x) (sym (mark-is.marked.values j c)) (mark-is.extreme.point.nonnegative (t.nonbasic j) (in_column j c refl));
-        nonzero = record { place = mark-is.nonzero.column; within = omega (arith, mark-is.nonzero.within, point-length); differs = λ e. mark-is.nonzero.other (sym (mark-is.marked.values mark-is.nonzero.column mark-is.nonzero.within) ∙ e) };
+        nonzero = record { place = mark-is.nonzero.place; within = omega (arith, mark-is.nonzero.within, point-length); differs = λ e. mark-is.nonzero.differs (sym (mark-is.marked.values mark-is.nonzero.place mark-is.nonzero.within) ∙ e) };
       }
 
 length-scaled : (p : List ℚ) → length (scaled_point p) ≡ length p
@@ -224,7 +224,7 @@ pub record ArePointsOf (m n : ℕ) (firsts seconds : List (List ℚ)) (q : ℕ �
   pub second : length (get_or seconds q.1 []) ≡ n
 
 -- of the two systems of a game
-module _ (g : Game) (one two : Parts) (p : ArePolytopesOf g one two) (first second : List MarkedPoint)
+module _ (g : Game) (one two : LinearSystem) (p : ArePolytopesOf g one two) (first second : List MarkedPoint)
     (hf : AreVertices (variable_count one) (system_of one) first) (hs : AreVertices (variable_count two) (system_of two) second) where
   abbrev t : Tableau
   t = first_system p.m p.n (shifted (shift_of p.least') (pays_against g 1))

@@ -7,7 +7,7 @@ use Rattle.answers.specs.Answers.{Answer, Gives, only, ◌>>=◌, refused_by, ma
 use Rattle.answers.proofs.AnswerLemmas.{gives_bind_as, gives_refused}
 use Rattle.game_theory.specs.Profiles.{Game}
 use Rattle.linear_systems.specs.Vertices.{MarkedPoint}
-use Rattle.lex_tableau.specs.Starts.{Parts}
+use Rattle.lex_tableau.specs.Starts.{LinearSystem}
 use Rattle.reply_polytope.specs.Stops.{polytopes_in}
 use Rattle.reply_polytope.proofs.EnumerableLemmas.{first_enumerable, second_enumerable}
 use Rattle.reply_polytope.proofs.PolytopeLemmas.{polytopes_of}
@@ -27,10 +27,10 @@ use Rattle.enummixed.specs.declared.stop.MixedStop.{MixedStop}
 use Rattle.enummixed.specs.declared.stop.MixedStop.TheVariants as stops
 
 -- what an enumeration asks of both systems
-pub one-enumerable : (game : Game) (one two : Parts) → polytopes_in game (Ok (one, two)) → IsEnumerable one
+pub one-enumerable : (game : Game) (one two : LinearSystem) → polytopes_in game (Ok (one, two)) → IsEnumerable one
 one-enumerable game one two p = let e = first_enumerable game one two (polytopes_of game one two p) in record { rated = e.0; few = e.1; numbered = e.2; right = e.3 }
 
-pub two-enumerable : (game : Game) (one two : Parts) → polytopes_in game (Ok (one, two)) → IsEnumerable two
+pub two-enumerable : (game : Game) (one two : LinearSystem) → polytopes_in game (Ok (one, two)) → IsEnumerable two
 two-enumerable game one two p = let e = second_enumerable game one two (polytopes_of game one two p) in record { rated = e.0; few = e.1; numbered = e.2; right = e.3 }
 
 -- the places of pairs are those of the lists
@@ -69,23 +69,23 @@ after-first first second pairs = scale-second second pairs >>= λ _. only (value
 abbrev pub after-pairs : VertexList → VertexList → List (ℕ × ℕ) → Answer MixedStop VertexPairs
 after-pairs first second pairs = scale-first first pairs >>= λ _. after-first first second pairs
 
-abbrev pub after-both : Parts → VertexList × VertexList → Answer MixedStop VertexPairs
+abbrev pub after-both : LinearSystem → VertexList × VertexList → Answer MixedStop VertexPairs
 after-both one both = refused_by pairs_stop (pairs_in (all_labels (variable_count one)) both.0.list both.1.list) >>= after-pairs both.0 both.1
 
-abbrev pub after-systems : Parts × Parts → Answer MixedStop VertexPairs
+abbrev pub after-systems : LinearSystem × LinearSystem → Answer MixedStop VertexPairs
 after-systems systems = both_vertices_in systems.0 systems.1 >>= after-both systems.0
 
 -- ---- the vertices of both polytopes
 both-values : (a b : VertexList × VertexList) → ◌≡◌ {A = Result (VertexList × VertexList) MixedStop} (Ok a) (Ok b) → a ≡ b
 both-values a b e = cc
 
-pub both-first : (one two : Parts) (both : VertexList × VertexList) → both_vertices_in one two (Ok both) → vertices_in one (Ok both.0)
+pub both-first : (one two : LinearSystem) (both : VertexList × VertexList) → both_vertices_in one two (Ok both) → vertices_in one (Ok both.0)
 both-first one two both h = subst (λ v. vertices_in one (Ok v)) (sym (ap (λ b. b.0) (both-values both (h.0, h.2.0) h.2.2))) h.1
 
-pub both-second : (one two : Parts) (both : VertexList × VertexList) → both_vertices_in one two (Ok both) → vertices_in two (Ok both.1)
+pub both-second : (one two : LinearSystem) (both : VertexList × VertexList) → both_vertices_in one two (Ok both) → vertices_in two (Ok both.1)
 both-second one two both h = subst (λ v. vertices_in two (Ok v)) (sym (ap (λ b. b.1) (both-values both (h.0, h.2.0) h.2.2))) h.2.1
 
-module _ {X : Type 0} (game : Game) (one two : Parts) (p : polytopes_in game (Ok (one, two))) (r : Result X MixedStop) (view : X → VertexPairs) where
+module _ {X : Type 0} (game : Game) (one two : LinearSystem) (p : polytopes_in game (Ok (one, two))) (r : Result X MixedStop) (view : X → VertexPairs) where
   pub up-systems : Gives stops.Memory (after-systems (one, two)) (map_ok r view) → Gives stops.Memory (extreme_pairs game) (map_ok r view)
   up-systems h = gives_bind_as stops.Memory (refused_by polytopes_stop (polytopes_in game)) after-systems (one, two) r view p h
 

@@ -21,7 +21,7 @@ use Rattle.enumpure.specs.declared.listing.ListStop.TheVariants as list_stops
 use Rattle.enumpure.proofs.OneTextLaws.{within_text_limit-single}
 use Rattle.reply_polytope.proofs.PolytopeLemmas.{polytopes_of}
 use Rattle.reply_polytope.proofs.SingleLemmas.{polytopes_single}
-use Rattle.lex_tableau.specs.Starts.{Parts}
+use Rattle.lex_tableau.specs.Starts.{LinearSystem}
 use Rattle.basis_enum.specs.Systems.{variable_count}
 use Rattle.label_pairing.specs.Scaling.{scale_steps}
 use Rattle.label_pairing.proofs.AllPairLemmas.{pairs_single}
@@ -83,7 +83,7 @@ text-same game one other h k = h.is_text ∙ ap lines_text (extreme_equilibria-d
 scaling-single : (points : List (List ℚ)) → IsSingle (scaling_in points)
 scaling-single points = refused_by-single _ _ (all_fit-single scale_steps points)
 
-both-single : (one two : Parts) → IsSingle (both_vertices_in one two)
+both-single : (one two : LinearSystem) → IsSingle (both_vertices_in one two)
 both-single one two =
     bind-single _ _ (refused_by-single (enumeration_stop 0) _ (one_answer one)) (λ first _.
     bind-single _ _ (refused_by-single (enumeration_stop 1) _ (one_answer two)) (λ second _. only-single (first, second)))

@@ -1,6 +1,6 @@
 -- The vertices of both polytopes
 use Rattle.answers.specs.Answers.{Answer, only, ◌>>=◌, refused_by}
-use Rattle.lex_tableau.specs.Starts.{Parts}
+use Rattle.lex_tableau.specs.Starts.{LinearSystem}
 use Rattle.basis_enum.specs.Enumeration.{vertices_in}
 use Rattle.basis_enum.specs.Vertices.{VertexList, vertex_list}
 use Rattle.basis_enum.specs.declared.vertex.Vertices.{Vertices}
@@ -8,7 +8,8 @@ use Rattle.enummixed.specs.Told.{enumeration_stop}
 use Rattle.enummixed.specs.declared.stop.MixedStop.{MixedStop}
 
 -- the vertices of the polytopes of two systems, which are numbered 0 and 1
-abbrev pub both_vertices_in : Parts → Parts → Answer MixedStop (VertexList × VertexList)
+abbrev pub both_vertices_in : LinearSystem → LinearSystem
+    → Answer MixedStop (VertexList × VertexList)
 both_vertices_in one two = do
   first ← refused_by (enumeration_stop 0) (vertices_in one)
   second ← refused_by (enumeration_stop 1) (vertices_in two)

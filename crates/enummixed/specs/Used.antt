@@ -1,19 +1,19 @@
 -- The points of the vertices that stand in a pair, scaled in order
-use Rattle.std.specs.Prelude.{ℕ, ◌-◌, ◌^◌, ◌==◌, min, Bool, false, if◌then◌else◌, List, [], ◌∷◌, length, map, get_or}
+use Rattle.std.specs.Prelude.{ℕ, ◌==◌, Bool, false, if◌then◌else◌, List, [], ◌∷◌, length, map, get_or}
 use Rattle.std.specs.List.{filter, list_any, range_with_len}
 use Rattle.answers.specs.Answers.{Answer, refused_by}
 use Rattle.rational.specs.Rational.{ℚ}
 use Rattle.linear_systems.specs.Vertices.{MarkedPoint}
-use Rattle.extreme_equilibria.specs.PairLines.{scaled_point}
+use Rattle.extreme_equilibria.specs.PairLines.{low_labels, high_labels, scaled_point}
 use Rattle.frac128.specs.FirstUnfit.{all_fit}
 use Rattle.label_pairing.specs.Pairs.{mark_at}
 use Rattle.label_pairing.specs.Scaling.{scale_steps}
 use Rattle.label_pairing.specs.declared.scaling.ScaleStop.{ScaleStop}
 use Rattle.label_pairing.specs.declared.scaling.ScaleStop.TheVariants as stops
 
--- the mask of n labels: its first n bits are set
+-- both words of the mask of n labels
 abbrev pub all_labels : ℕ → List ℕ
-all_labels n = (2 ^ min n 64 - 1) ∷ (2 ^ (n - 64) - 1) ∷ []
+all_labels n = low_labels n ∷ high_labels n ∷ []
 
 -- whether a place is among these
 abbrev pub occurs : List ℕ → ℕ → Bool

@@ -2,8 +2,8 @@
 ghost use Rattle.std.specs.Prelude.{◌≡◌, ◌<◌, ◌≤◌, ◌++◌, length, IfOk, OnOk};
 ghost use Rattle.answers.specs.Answers.{Gives, IsSingle, map_ok};
 ghost use Rattle.game_theory.specs.Profiles.{Game, IsProfile, profile_count};
-ghost use Rattle.game_theory.specs.Mixed.{sure, pure};
-ghost use Rattle.game_theory.specs.Lines.{listed, entries as entries_of, lines_text};
+ghost use Rattle.game_theory.specs.Mixed.{pure};
+ghost use Rattle.game_theory.specs.Lines.{entries as entries_of, lines_text};
 ghost use Rattle.game_core.specs.Table.{game_of, strategy_counts, most_payoffs};
 ghost use Rattle.game_theory.specs.Ranks.{ranked};
 ghost use Rattle.enumpure.specs.Ranks.{lines_below};
@@ -13,7 +13,7 @@ ghost use Rattle.enumpure.specs.declared.listing.ListStop.TheVariants as stops;
 use crate::lengths::text_length;
 use crate::replies::mutual_best_replies;
 use frac128::{Frac, Memory};
-use game_core::{MOST_TEXT, Table, TooLarge, too_long_text};
+use game_core::{MOST_TEXT, Table, TooLarge, push_sure, too_long_text};
 use ne_printer::push_line;
 use std::alloc::Global;
 
@@ -54,22 +54,6 @@ fn set_ranked(profile: &mut [u32], counts: &[usize], profiles: usize, rank: usiz
     }
 }
 
-// Adds a player's entries: 1 for the strategy that is played, and 0 for the others.
-fn push_entries(entries: &mut Vec<Frac>, strategies: usize, played: usize) -> Result<(), Memory>
-    ensures { OnOk result (entries.new.items
-        ≡ entries.old.items ++ listed strategies (sure played)) }
-{
-    for strategy in 0..strategies {
-        let entry = if strategy == played {
-            Frac::one()
-        } else {
-            Frac::zero()
-        };
-        entries.push(entry)?;
-    }
-    Ok(())
-}
-
 // Writes the entries of a pure profile over those that stood there.
 fn set_entries(entries: &mut Vec<Frac>, counts: &[usize], profile: &[u32]) -> Result<(), Memory>
     requires profile { IsProfile counts.now profile.now }
@@ -77,7 +61,7 @@ fn set_entries(entries: &mut Vec<Frac>, counts: &[usize], profile: &[u32]) -> Re
 {
     entries.clear();
     for player in 0..counts.len() {
-        push_entries(entries, counts[player], profile[player] as usize)?;
+        push_sure(entries, counts[player], profile[player] as usize)?;
     }
     Ok(())
 }

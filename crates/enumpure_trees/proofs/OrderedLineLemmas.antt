@@ -74,9 +74,9 @@ module _ (t : Tree) (f g : ℕ → ℕ) (k : ℕ) (same : (j : ℕ) → j < k �
   sets_from-before : (i n : ℕ) → i ≤ k → k < i + n → ComesBefore (map f (sets_from t i n)) (map g (sets_from t i n))
   sets_from-before i zero a b = absurd (omega arith)
   sets_from-before i (suc n) a b =
-      subst₂ (λ x y. ComesBefore x y) (sym (map-append f (own_sets t i) (sets_from t (suc i) n))) (sym (map-append g (own_sets t i) (sets_from t (suc i) n))) (elim (cases_eq i k) [
-        | inl e ↦ first-before i (map f (sets_from t (suc i) n)) (map g (sets_from t (suc i) n)) e
-        | inr e ↦ later-before i (map f (sets_from t (suc i) n)) (map g (sets_from t (suc i) n)) (omega arith) (sets_from-before (suc i) n (omega arith) (omega arith))
+      subst₂ (λ x y. ComesBefore x y) (sym (map-append f (own_sets t i) (sets_from t (i + 1) n))) (sym (map-append g (own_sets t i) (sets_from t (i + 1) n))) (elim (cases_eq i k) [
+        | inl e ↦ first-before i (map f (sets_from t (i + 1) n)) (map g (sets_from t (i + 1) n)) e
+        | inr e ↦ later-before i (map f (sets_from t (i + 1) n)) (map g (sets_from t (i + 1) n)) (omega arith) (sets_from-before (i + 1) n (omega arith) (omega arith))
       ])
 
   -- and their line stands before

@@ -1,9 +1,9 @@
 -- The sets of the players in the order in which their entries are printed, and the lines of pure choices.
 use Rattle.std.proofs.Common.{ℕ, zero, suc, ◌+◌, ◌<◌, ◌≤◌, ◌≡◌, inl, inr, Some, List, [], ◌∷◌, ◌++◌, map, refl, sym, ap, ◌∙◌, arith}
-use Rattle.std.specs.List.{flat_map}
+use Rattle.std.specs.List.{flat_map, range_with_len}
 use Rattle.std.proofs.lemmas.Bool.{cases_eq}
 use Rattle.std.proofs.lemmas.List.Concat.{flat_map-append}
-use Rattle.game_theory.specs.TreeEntries.{own_entries, entries_from, tree_entries}
+use Rattle.game_theory.specs.TreeEntries.{own_entries, tree_entries}
 use Rattle.game_theory.specs.OwnSets.{own_sets}
 use Rattle.game_theory.proofs.OwnSetLemmas.{IsAmong, IsAmong-left, IsAmong-parts, IsAmong-right, own_sets-has, own_sets-tell}
 use Rattle.rational.specs.Rational.{ℚ}
@@ -15,8 +15,7 @@ use Rattle.game_theory.specs.Behaviour.{pure}
 
 -- the own sets of n players from player i on
 abbrev pub sets_from : Tree → ℕ → ℕ → List ℕ
-sets_from t i zero = []
-sets_from t i (suc n) = own_sets t i ++ sets_from t (suc i) n
+sets_from t i n = flat_map (own_sets t) (range_with_len i n)
 
 -- the sets of all players
 abbrev pub printed_sets : Tree → List ℕ
@@ -27,8 +26,8 @@ sets_from-has : (t : Tree) (i n s j : ℕ) → s < t.sets → t.owner s ≡ Some
 sets_from-has t i zero s j l o a b = absurd (omega arith)
 sets_from-has t i (suc n) s j l o a b =
     elim (cases_eq i j) [
-      | inl e ↦ IsAmong-left (own_sets t i) (sets_from t (suc i) n) s (own_sets-has t i s l (o ∙ ap Some (sym e)))
-      | inr e ↦ IsAmong-right (own_sets t i) (sets_from t (suc i) n) s (sets_from-has t (suc i) n s j l o (omega arith) (omega arith))
+      | inl e ↦ IsAmong-left (own_sets t i) (sets_from t (i + 1) n) s (own_sets-has t i s l (o ∙ ap Some (sym e)))
+      | inr e ↦ IsAmong-right (own_sets t i) (sets_from t (i + 1) n) s (sets_from-has t (i + 1) n s j l o (omega arith) (omega arith))
     ]
 
 -- each player's set is one of the sets
@@ -43,9 +42,9 @@ IsPlayers t s = (i : ℕ) × (s < t.sets) × (t.owner s ≡ Some i)
 sets_from-tell : (t : Tree) (i n s : ℕ) → IsAmong (sets_from t i n) s → IsPlayers t s
 sets_from-tell t i zero s m = absurd m
 sets_from-tell t i (suc n) s m =
-    elim (IsAmong-parts (own_sets t i) (sets_from t (suc i) n) s m) [
+    elim (IsAmong-parts (own_sets t i) (sets_from t (i + 1) n) s m) [
       | inl a ↦ (i, (own_sets-tell t i s a).0, (own_sets-tell t i s a).1)
-      | inr b ↦ sets_from-tell t (suc i) n s b
+      | inr b ↦ sets_from-tell t (i + 1) n s b
     ]
 
 -- each of all the sets is a player's
@@ -63,14 +62,14 @@ entries_at-profile t choice [] = refl
 entries_at-profile t choice (set ∷ sets) = ap (λ x. listed (t.actions set) (sure (choice set)) ++ x) (entries_at-profile t choice sets)
 
 -- the entries of players are those at their sets
-entries_from-sets : (t : Tree) (choice : ℕ → ℕ) (i n : ℕ) → entries_from t (pure choice) i n ≡ entries_at t choice (sets_from t i n)
-entries_from-sets t choice i zero = refl
-entries_from-sets t choice i (suc n) =
-    ap (λ x. own_entries t (pure choice) i ++ x) (entries_from-sets t choice (suc i) n) ∙ sym (flat_map-append (λ s. listed (t.actions s) (sure (choice s))) (own_sets t i) (sets_from t (suc i) n))
+entries_at-sets : (t : Tree) (choice : ℕ → ℕ) (i n : ℕ) → flat_map (own_entries t (pure choice)) (range_with_len i n) ≡ entries_at t choice (sets_from t i n)
+entries_at-sets t choice i zero = refl
+entries_at-sets t choice i (suc n) =
+    ap (λ x. own_entries t (pure choice) i ++ x) (entries_at-sets t choice (i + 1) n) ∙ sym (flat_map-append (λ s. listed (t.actions s) (sure (choice s))) (own_sets t i) (sets_from t (i + 1) n))
 
 -- the entries of choices are those of a profile in which each set is a player
 pub tree_entries-profile : (t : Tree) (choice : ℕ → ℕ) → tree_entries t (pure choice) ≡ entries (map t.actions (printed_sets t)) (pure_profile (map choice (printed_sets t)))
-tree_entries-profile t choice = entries_from-sets t choice 0 t.players ∙ entries_at-profile t choice (printed_sets t)
+tree_entries-profile t choice = entries_at-sets t choice 0 t.players ∙ entries_at-profile t choice (printed_sets t)
 
 -- actions at sets are such a profile
 IsProfile-choices : (t : Tree) (choice : ℕ → ℕ) (sets : List ℕ) → ((s : ℕ) → IsAmong sets s → choice s < t.actions s) → IsProfile (map t.actions sets) (map choice sets)

@@ -17,8 +17,8 @@ use Rattle.extreme_equilibria.specs.ExtremeEquilibria.{AreSame, IsExtremeEquilib
 use Rattle.extreme_equilibria.specs.TwoPlayers.{pays_against}
 use Rattle.game_theory.proofs.ProfileLineLemmas.{length-listed, get_or-listed, listed-same}
 use Rattle.extreme_equilibria.specs.Bimatrix.{IsPositive, shifted, shift_of}
-use Rattle.extreme_equilibria.specs.Polytopes.{IsNonzero, IsInPolytope, IsVertex, first_variable, second_variable, IsCompletelyLabelled, IsVertexPair, scaled}
-use Rattle.linear_systems.specs.Points.{IsExtremePoint}
+use Rattle.extreme_equilibria.specs.Polytopes.{IsInPolytope, IsVertex, first_variable, second_variable, IsCompletelyLabelled, IsVertexPair, scaled}
+use Rattle.linear_systems.specs.Points.{IsExtremePoint, IsNonzero}
 use Rattle.linear_systems.specs.Vertices.{MarkedPoint, IsMarkOf, IsVertexMark, AreVertices}
 use Rattle.extreme_equilibria.specs.Systems.{first_system, second_system}
 use Rattle.extreme_equilibria.specs.PairLines.{scaled_point, HaveAllLabels, pair_line, IsPairLine, ArePairLines}
@@ -75,8 +75,8 @@ module _ (m n : ℕ) (a c : ℕ → ℕ → ℚ) where
         first_vertex = vertex_of m n c (λ i. suc i) (λ j. m + suc j) (first_fill m c) (first_fills m n c) f.solution f.extreme;
         second_vertex = vertex_of n m a (λ j. m + suc j) (λ i. suc i) (second_fill m n a) (second_fills m n a) s.solution s.extreme;
         labelled = labels_of f.solution s.solution f.extreme s.extreme ((masks_determine_labels (m + n) (first_system m n c) (second_system m n a) f.solution s.solution one two f.marked s.marked).0 h);
-        first_nonzero = record { place = f.nonzero.column; within = f.nonzero.within; differs = f.nonzero.other };
-        second_nonzero = record { place = s.nonzero.column; within = s.nonzero.within; differs = s.nonzero.other };
+        first_nonzero = f.nonzero;
+        second_nonzero = s.nonzero;
       }
 
   line-of : (one two : MarkedPoint) (f : IsVertexMark (m + n) (first_system m n c) one) (s : IsVertexMark (m + n) (second_system m n a) two) → pair_line one two ≡ listed m (scaled m (λ i. f.solution (suc i))) ++ listed n (scaled n (λ j. s.solution (m + suc j)))
@@ -105,8 +105,8 @@ module _ (g : Game) (m n : ℕ) (e : g.strategies ≡ m ∷ n ∷ []) (d d' : �
     complete : (lines : List (List ℚ)) → ArePairLines (m + n) first second lines → (k : Mixed) → IsExtremeEquilibrium g k → Contains lines (entries g.strategies k)
     complete lines h k x =
         let s = (extreme_points m n a c (k 0) (k 1) pa pc).0 ((shift_extreme m n (pays_against g 0) (pays_against g 1) d d' (k 0) (k 1)).0 (extreme_to_tables g m n e k x)) in
-        let one = hf.complete (first_fill m c s.first) (vertex_filled m n c (λ i. suc i) (λ j. m + suc j) (first_fill m c) (first_fills m n c) s.first s.pair.first_vertex) (record { column = s.pair.first_nonzero.place; within = s.pair.first_nonzero.within; other = λ z. s.pair.first_nonzero.differs (sym ((first_fills m n c).entry s.first s.pair.first_nonzero.place s.pair.first_nonzero.within) ∙ z) }) in
-        let two = hs.complete (second_fill m n a s.second) (vertex_filled n m a (λ j. m + suc j) (λ i. suc i) (second_fill m n a) (second_fills m n a) s.second s.pair.second_vertex) (record { column = s.pair.second_nonzero.place; within = s.pair.second_nonzero.within; other = λ z. s.pair.second_nonzero.differs (sym ((second_fills m n a).entry s.second s.pair.second_nonzero.place s.pair.second_nonzero.within) ∙ z) }) in
+        let one = hf.complete (first_fill m c s.first) (vertex_filled m n c (λ i. suc i) (λ j. m + suc j) (first_fill m c) (first_fills m n c) s.first s.pair.first_vertex) (record { place = s.pair.first_nonzero.place; within = s.pair.first_nonzero.within; differs = λ z. s.pair.first_nonzero.differs (sym ((first_fills m n c).entry s.first s.pair.first_nonzero.place s.pair.first_nonzero.within) ∙ z) }) in
+        let two = hs.complete (second_fill m n a s.second) (vertex_filled n m a (λ j. m + suc j) (λ i. suc i) (second_fill m n a) (second_fills m n a) s.second s.pair.second_vertex) (record { place = s.pair.second_nonzero.place; within = s.pair.second_nonzero.within; differs = λ z. s.pair.second_nonzero.differs (sym ((second_fills m n a).entry s.second s.pair.second_nonzero.place s.pair.second_nonzero.within) ∙ z) }) in
         let labels : HaveAllLabels (m + n) one.0 two.0 = (masks_determine_labels (m + n) (first_system m n c) (second_system m n a) _ _ one.0 two.0 one.2 two.2).1 (λ v b. elim (s.pair.labelled v b) [ inl z ↦ inl (ap (λ l. first_variable m c s.first l) (before v) ∙ z) | inr z ↦ inr (ap (λ l. second_variable m n a s.second l) (before v) ∙ z) ]) in
         let first_is : scaled_point one.0.point ≡ listed m (k 0) = ap scaled_point (mark_point _ _ _ _ one.2) ∙ scaled-listed m _ ∙ listed-same m _ (k 0) (λ i b. scaled_same m _ s.first ((first_fills m n c).entry s.first) i b ∙ sym (s.first_is i b)) in
         let second_is : scaled_point two.0.point ≡ listed n (k 1) = ap scaled_point (mark_point _ _ _ _ two.2) ∙ scaled-listed n _ ∙ listed-same n _ (k 1) (λ j b. scaled_same n _ s.second ((second_fills m n a).entry s.second) j b ∙ sym (s.second_is j b)) in
@@ -163,7 +163,7 @@ listed_differently m n k r c w b fill fills variables list h i j d hi hj e =
     let f : IsVertexMark (m + n) (system k r c w b) (get_or list i d) = h.sound i d hi in
     let s : IsVertexMark (m + n) (system k r c w b) (get_or list j d) = h.sound j d hj in
     let scalings : AreSame k (scaled k (λ j. f.solution (w j))) (scaled k (λ j. s.solution (w j))) = listed-entries k _ _ (sym (scaled-listed k (λ j. f.solution (w j))) ∙ ap scaled_point (sym (mark_point _ _ _ _ f.marked)) ∙ e ∙ ap scaled_point (mark_point _ _ _ _ s.marked) ∙ scaled-listed k (λ j. s.solution (w j))) in
-    let points : AreSame k (λ j. f.solution (w j)) (λ j. s.solution (w j)) = vertices_scale_differently k r c _ _ (vertex_of k r c w b fill fills f.solution f.extreme) (vertex_of k r c w b fill fills s.solution s.extreme) (record { place = f.nonzero.column; within = f.nonzero.within; differs = f.nonzero.other }) (record { place = s.nonzero.column; within = s.nonzero.within; differs = s.nonzero.other }) scalings in
+    let points : AreSame k (λ j. f.solution (w j)) (λ j. s.solution (w j)) = vertices_scale_differently k r c _ _ (vertex_of k r c w b fill fills f.solution f.extreme) (vertex_of k r c w b fill fills s.solution s.extreme) (f.nonzero) (s.nonzero) scalings in
     let masks = same_mask (m + n) (system k r c w b) (system k r c w b) f.solution s.solution (get_or list i d) (get_or list j d) (λ l q. determined k r c w b fill fills f.solution f.extreme.point (suc l) (variables l q) ∙ fill_same k r c w b fill fills _ _ points (suc l) (variables l q) ∙ sym (determined k r c w b fill fills s.solution s.extreme.point (suc l) (variables l q))) f.marked s.marked in
     place_once list h.ascending i j d hi hj (ap₂ (λ x y. x + 2 ^ 64 * y) masks.0 masks.1)
 

@@ -9,7 +9,7 @@ use Rattle.rational.proofs.Field.{lt-le, lt-add, le_of_lt, nonneg-mul}
 use Rattle.rational.proofs.InverseLemmas.{ne_zero_of_pos, inv_ℚ-inv, *ℚ_cancel}
 use Rattle.rational.proofs.SumLemmas.{sum_to-pos}
 use Rattle.rational.proofs.Rules.{*ℚ-zero}
-use Rattle.extreme_equilibria.specs.Polytopes.{IsNonzero}
+use Rattle.linear_systems.specs.Points.{IsNonzero}
 
 -- positive numbers have a positive sum
 pub add-pos : (a b : ℚ) → zero_ℚ <ℚ a → zero_ℚ <ℚ b → zero_ℚ <ℚ (a +ℚ b)

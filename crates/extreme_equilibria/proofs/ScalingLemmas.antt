@@ -8,9 +8,10 @@ use Rattle.rational.proofs.Field.{nonneg-mul, le-mul_right, *ℚ-inv}
 use Rattle.rational.proofs.Rules.{zero-*ℚ}
 use Rattle.rational.proofs.SumLemmas.{sum_to-scale_right, sum_to-same}
 use Rattle.rational.proofs.MeanLemmas.{support}
+use Rattle.linear_systems.specs.Points.{IsNonzero}
 use Rattle.extreme_equilibria.specs.ExtremeEquilibria.{AreSame}
 use Rattle.extreme_equilibria.specs.Bimatrix.{gain, mean_gain, IsMixedStrategy, IsBestReply, IsBimatrixEquilibrium, IsPositive}
-use Rattle.extreme_equilibria.specs.Polytopes.{IsNonzero, IsInPolytope, IsLabelledPair, scaled}
+use Rattle.extreme_equilibria.specs.Polytopes.{IsInPolytope, IsLabelledPair, scaled}
 use Rattle.extreme_equilibria.proofs.LabelLemmas.{IsLabelled}
 use Rattle.rational.proofs.Field.{le_of_lt}
 use Rattle.rational.proofs.InverseLemmas.{one_pos, ne_zero_of_pos, inv_pos}

@@ -6,12 +6,12 @@ use Rattle.linear_systems.specs.Tableau.{Tableau}
 use Rattle.game_theory.specs.Profiles.{Game}
 use Rattle.game_theory.specs.Mixed.{Mixed, pure}
 use Rattle.game_theory.specs.Equilibrium.{IsEquilibrium}
-use Rattle.linear_systems.specs.Points.{IsFeasible}
+use Rattle.linear_systems.specs.Points.{IsFeasible, IsNonzero}
 use Rattle.linear_systems.specs.Vertices.{MarkedPoint, IsMarkOf, AreVertices}
 use Rattle.extreme_equilibria.specs.ExtremeEquilibria.{AreSame, IsExtremeEquilibrium, AreExtremeEquilibria}
 use Rattle.extreme_equilibria.specs.TwoPlayers.{pays_against}
 use Rattle.extreme_equilibria.specs.Bimatrix.{mean_gain, IsBimatrixEquilibrium, IsExtremeBimatrixEquilibrium, IsPositive, shifted, IsBelowAll, shift_of}
-use Rattle.extreme_equilibria.specs.Polytopes.{IsNonzero, IsInPolytope, IsVertex, IsCompletelyLabelled, IsLabelledPair, IsScaledPair, scaled}
+use Rattle.extreme_equilibria.specs.Polytopes.{IsInPolytope, IsVertex, IsCompletelyLabelled, IsLabelledPair, IsScaledPair, scaled}
 use Rattle.extreme_equilibria.specs.Systems.{first_system, second_system}
 use Rattle.extreme_equilibria.specs.PairLines.{scaled_point, HaveAllLabels, ArePairLines}
 

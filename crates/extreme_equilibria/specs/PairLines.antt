@@ -10,10 +10,18 @@ use Rattle.extreme_equilibria.specs.Polytopes.{scaled}
 abbrev pub scaled_point : List ℚ → List ℚ
 scaled_point point = listed (length point) (scaled (length point) (entry_at point))
 
--- the two masks together have all n bits
+-- the low word of the mask of n labels
+abbrev pub low_labels : ℕ → ℕ
+low_labels n = 2 ^ min n 64 - 1
+
+-- the high word of the mask of n labels
+abbrev pub high_labels : ℕ → ℕ
+high_labels n = 2 ^ (n - 64) - 1
+
+-- the two points together have all n labels
 pub record HaveAllLabels (n : ℕ) (one two : MarkedPoint) : Type 0 where
-  pub low : bit_or one.low two.low ≡ 2 ^ min n 64 - 1
-  pub high : bit_or one.high two.high ≡ 2 ^ (n - 64) - 1
+  pub low : bit_or one.low two.low ≡ low_labels n
+  pub high : bit_or one.high two.high ≡ high_labels n
 
 -- the line of a pair: the entries of both points, each divided by the sum of its point
 abbrev pub pair_line : MarkedPoint → MarkedPoint → List ℚ

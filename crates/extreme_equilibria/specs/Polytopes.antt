@@ -1,15 +1,10 @@
 -- The polytopes of best replies, their vertices and labels. Source: von Stengel 2002.
-use Rattle.std.specs.Prelude.{ℕ, ◌+◌, ◌-◌, ◌<◌, ◌≡◌, ◌≢◌, ◌⊎◌, ltb, cond}
+use Rattle.std.specs.Prelude.{ℕ, ◌+◌, ◌-◌, ◌<◌, ◌≡◌, ◌⊎◌, ltb, cond}
 use Rattle.rational.specs.Rational.{ℚ, ◌*ℚ◌, ◌-ℚ◌, inv_ℚ, ◌≤ℚ◌, zero_ℚ, one_ℚ}
 use Rattle.rational.specs.Sum.{sum_to}
+use Rattle.linear_systems.specs.Points.{IsNonzero}
 use Rattle.extreme_equilibria.specs.ExtremeEquilibria.{AreSame}
 use Rattle.extreme_equilibria.specs.Bimatrix.{gain, IsNoMidpoint}
-
--- some of the first n entries is not 0
-pub record IsNonzero (n : ℕ) (x : ℕ → ℚ) : Type 0 where
-  pub place : ℕ
-  pub within : place < n
-  pub differs : x place ≢ zero_ℚ
 
 -- k entries that are not negative, against which none of the other player's r strategies gains more
 -- than 1

@@ -1,7 +1,7 @@
 -- Single tokens that must come are readers.
 use Rattle.std.proofs.Common.{◌≡◌, ℕ, List, [], ◌∷◌, Bool, if◌then◌else◌, nat_eq, nat_le, Option, Some, None, ◌⊎◌, inl, inr, refl, sym, ap, arith}
 use Rattle.std.specs.Prelude.{Result, Ok, Err, codes}
-use Rattle.std.specs.Cmp.Lexicographic.{pointwise}
+use Rattle.std.specs.Str.{bytes_eq}
 use Rattle.std.specs.Option.{option_or}
 use Rattle.std.proofs.lemmas.Bool.{cases_Bool}
 use Rattle.lists.specs.Options.{◌>>=◌}
@@ -137,7 +137,7 @@ count_reader kind = wanted_reader kind count_at (tested_head whole_at whole_is_h
 
 after_mark : (expected : List ℕ) → IsMark (after_word expected)
 unfolding after_word
-after_mark expected = tested_mark word_at (record { none = refl; by_token = word_head }) (λ word. pointwise nat_eq word expected)
+after_mark expected = tested_mark word_at (record { none = refl; by_token = word_head }) (λ word. bytes_eq word expected)
 
 -- a word
 pub word_reader : {K : Type 0} (kind : K) (expected : List ℕ) → IsReader (λ tokens. passed kind tokens (after_word expected tokens))

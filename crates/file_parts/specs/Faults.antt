@@ -24,7 +24,7 @@ pub record IsFaultFrom {K : Type 0} (IsFile BeginsFile : List Token → Type 0) 
 -- a fault of this kind at this offset: that of the token named, or the source's length where the tokens end too early
 abbrev pub IsFaultAt : {K : Type 0} → (IsFile BeginsFile : List Token → Type 0) → (IsKind : K → List Token → List Token → Type 0) → TokenList → K → ℕ → Type 0
 IsFaultAt IsFile BeginsFile IsKind tokens kind at =
-    (rest : List Token) × IsFaultFrom IsFile BeginsFile IsKind (bare tokens) kind rest × (at ≡ offset_of tokens (length rest))
+    (rest : List Token) × IsFaultFrom IsFile BeginsFile IsKind (bare tokens.list) kind rest × (at ≡ offset_of tokens (length rest))
 
 -- a whole number comes next
 abbrev pub WholeComes : List Token → Type 0

@@ -36,4 +36,4 @@ tree_game-single tokens =
 pub game_in-single : (bytes : List ℕ) → IsSingle (game_in bytes)
 game_in-single bytes =
     bind-single (tokens_in bytes) game_of_tokens (tokens_in-single bytes)
-    (λ tokens _. by_case-single (BeginsAsTree (bare tokens)) (tree_game tokens) (table_game tokens) (λ _. tree_game-single tokens) (λ _. table_game-single tokens))
+    (λ tokens _. by_case-single (BeginsAsTree (bare tokens.list)) (tree_game tokens) (table_game tokens) (λ _. tree_game-single tokens) (λ _. table_game-single tokens))

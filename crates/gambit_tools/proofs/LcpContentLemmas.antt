@@ -1,20 +1,17 @@
 -- Refusals of the tool `lcp` come from the contents of its input, and the steps that they name do not fit.
-use Rattle.std.proofs.Common.{ℕ, inl, inr, refl, subst, sym, Bool, Err}
+use Rattle.std.proofs.Common.{inl, inr, refl, subst, sym, Bool, Err}
 use Rattle.answers.specs.Answers.{only, ◌>>=◌, refused_by}
 use Rattle.game_core.specs.declared.game.Game.{Game}
 use Rattle.sequence_data.specs.Data.{FormData}
 use Rattle.sequence_form.specs.Counts.{problem_rows}
-use Rattle.frac128.specs.Steps.{StepFits}
-use Rattle.lex_tableau.specs.Rows.{Numbers}
 use Rattle.lex_tableau.specs.StartStops.{start_of}
 use Rattle.lex_tableau.specs.declared.tableau.StartStop.{StartStop}
-use Rattle.lex_tableau.specs.declared.unfit_pivot.UnfitPivot.{UnfitPivot}
 use Rattle.zero_sum_lp.specs.PlanPairs.{PlanPair}
 use Rattle.lemke_pivot.specs.Ends.{solved_in}
 use Rattle.lemke_pivot.specs.FormProblems.{IsSystemOf, problem_in, told_start}
 use Rattle.lemke_pivot.specs.Parts.{size_of}
-use Rattle.lemke_pivot.specs.Paths.{EndsUnfit}
 use Rattle.lemke_pivot.specs.declared.stop.LcpStop.{LcpStop}
+use Rattle.lemke_pivot.proofs.PathEndLemmas.{path_unfit}
 use Rattle.two_player_tools.specs.Entries.{plans_line}
 use Rattle.two_player_tools.specs.Lcp.{equilibrium_in, lcp, plans_at}
 use Rattle.refusals.specs.Told.{pivot_refusal, problem_refusal}
@@ -35,16 +32,11 @@ problem-contents f stop (inr (_, _, inr (_, _, inl h))) =
     subst (λ s. IsOfContents (problem_refusal s)) (sym h.2) (start-contents f h.0 h.1)
 problem-contents f stop (inr (_, _, inr (_, _, inr (_, _, e)))) = cc e
 
--- the step that ends a path
-path-unfit : (m : Numbers) (n row : ℕ) (stop : UnfitPivot) → EndsUnfit m n row stop → ¬ (StepFits stop.unfit)
-path-unfit m n row stop (inl first) = first.3.does_not_fit
-path-unfit m n row stop (inr later) = later.2.unfit.does_not_fit
-
 equilibrium-contents : (f : FormData) → AreContents (equilibrium_in f)
 equilibrium-contents f =
     then-contents (refused_by problem_refusal (problem_in f)) (λ p. refused_by pivot_refusal (solved_in p) >>= λ s. only (plans_at s))
     (told-contents problem_refusal (problem_in f) (problem-contents f))
-    (λ p. then-contents (refused_by pivot_refusal (solved_in p)) (λ s. only (plans_at s)) (told-contents pivot_refusal (solved_in p) (λ stop h. path-unfit p.tableau (size_of p) h.row stop h.path)) (λ s. only-contents (plans_at s)))
+    (λ p. then-contents (refused_by pivot_refusal (solved_in p)) (λ s. only (plans_at s)) (told-contents pivot_refusal (solved_in p) (λ stop h. path_unfit p.tableau (size_of p) h.row stop h.path)) (λ s. only-contents (plans_at s)))
 
 pub lcp-contents : (strategic : Bool) (game : Game) (r : Refusal) → lcp strategic game (Err r) → IsOfContents r
 lcp-contents strategic game =

@@ -1,9 +1,8 @@
 -- Refusals of the tool `lp` come from the contents of its input, and the steps that they name do not fit.
-use Rattle.std.proofs.Common.{inl, inr, refl, subst, sym, Bool, true, false, List, [], ◌++◌, Err}
+use Rattle.std.proofs.Common.{inl, inr, refl, subst, sym, Bool, true, false, [], ◌++◌, Err}
 use Rattle.answers.specs.Answers.{only, refuse_where, ◌>>=◌, refused_by}
-use Rattle.frac128.specs.Steps.{AddFits, Step, StepFits, unfit}
+use Rattle.frac128.specs.Steps.{AddFits, unfit}
 use Rattle.frac128.specs.declared.steps.Op.TheVariants.{Add}
-use Rattle.rational.specs.Rational.{ℚ}
 use Rattle.game_theory.specs.Lines.{line_text}
 use Rattle.game_core.specs.declared.game.Game.{Game}
 use Rattle.sequence_data.specs.Data.{FormData}
@@ -13,9 +12,10 @@ use Rattle.lex_tableau.specs.declared.tableau.StartStop.{StartStop}
 use Rattle.zero_sum_lp.specs.Ends.{optimum_in}
 use Rattle.zero_sum_lp.specs.FormPrograms.{IsSystemOf, program_in, told_start}
 use Rattle.zero_sum_lp.specs.Parts.{Program}
-use Rattle.zero_sum_lp.specs.PlanStops.{plan_in, plans_of}
+use Rattle.zero_sum_lp.specs.PlanStops.{plans_of}
 use Rattle.zero_sum_lp.specs.declared.stop.LpStop.{LpStop}
 use Rattle.zero_sum_lp.specs.declared.stop.PlanStop.{PlanStop}
+use Rattle.zero_sum_lp.proofs.PlanStageLemmas.{plan_in-unfit}
 use Rattle.two_player_tools.specs.Entries.{entries_in}
 use Rattle.two_player_tools.specs.Lp.{Solution, first_price, lp, prices_in, prices_text, solution, solution_in, solution_text}
 use Rattle.two_player_tools.specs.TwoPlayers.{form_in, two_players}
@@ -26,14 +26,9 @@ use Rattle.refusals.specs.declared.refusal.Site.TheVariants as site
 use Rattle.gambit_tools.proofs.FormContentLemmas.{AreContents, IsOfContents, entries-contents, form_in-contents, only-contents, then-contents, told-contents, two_players-contents, where-contents}
 
 -- ---- reasons to stop
-plan-unfit : (is_plan : List ℚ → Type 0) (steps : List ℚ → List Step) (step : Step) → plan_in is_plan steps (Err step) → ¬ (StepFits step)
-plan-unfit is_plan steps step (inl h) = absurd h
-plan-unfit is_plan steps step (inr (_, _, inl h)) = h.does_not_fit
-plan-unfit is_plan steps step (inr (_, _, inr (_, _, h))) = cc
-
 plan-contents : (o : Program) (stop : PlanStop) → plans_of o (Err stop) → IsOfContents (plan_refusal stop)
-plan-contents o stop (inl h) = subst (λ s. IsOfContents (plan_refusal s)) (sym h.2) (plan-unfit _ _ h.0 h.1)
-plan-contents o stop (inr (_, _, inl h)) = subst (λ s. IsOfContents (plan_refusal s)) (sym h.2) (plan-unfit _ _ h.0 h.1)
+plan-contents o stop (inl h) = subst (λ s. IsOfContents (plan_refusal s)) (sym h.2) (plan_in-unfit _ _ h.0 h.1)
+plan-contents o stop (inr (_, _, inl h)) = subst (λ s. IsOfContents (plan_refusal s)) (sym h.2) (plan_in-unfit _ _ h.0 h.1)
 plan-contents o stop (inr (_, _, inr (_, _, h))) = cc (h)
 
 start-contents : (f : FormData) (stop : StartStop) → start_of (IsSystemOf f) (Err stop) → IsOfContents (program_refusal (told_start stop))

@@ -6,7 +6,7 @@ use Rattle.game_theory.specs.Profiles.{Game as TableGame}
 use Rattle.game_core.specs.Table.{GameTable, game_of}
 use Rattle.game_core.specs.declared.game.Game.{Game}
 use Rattle.linear_systems.specs.Vertices.{MarkedPoint}
-use Rattle.lex_tableau.specs.Starts.{Parts}
+use Rattle.lex_tableau.specs.Starts.{LinearSystem}
 use Rattle.reduced_form.specs.Kept.{kept_of}
 use Rattle.reduced_form.proofs.KeptSingleLemmas.{kept_not_memory}
 use Rattle.reduced_form.specs.declared.kept_stop.KeptStop.{KeptStop}
@@ -52,7 +52,7 @@ polytopes-reasons g stop (inr (_, _, inr (_, _, inr (one, _, inl h)))) = shift-r
 polytopes-reasons g stop (inr (_, _, inr (_, _, inr (one, _, inr (two, _, h))))) = absurd h
 
 -- the levels of the enumeration
-level-reasons : (polytope : ℕ) (s : Parts) (k : ℕ) (stop : EnumStop) → level_of s k (Err stop) → IsOfContents (mixed_refusal (enumeration_stop polytope stop))
+level-reasons : (polytope : ℕ) (s : LinearSystem) (k : ℕ) (stop : EnumStop) → level_of s k (Err stop) → IsOfContents (mixed_refusal (enumeration_stop polytope stop))
 level-reasons polytope s zero stop (inl (begin, inl h, e)) =
     subst (λ s. IsOfContents (mixed_refusal (enumeration_stop polytope s))) (sym (e ∙ ap told_start h.2)) (h.1.first_unfit.does_not_fit)
 level-reasons polytope s zero stop (inl (begin, inr (_, _, h), e)) = absurd h
@@ -65,7 +65,7 @@ level-reasons polytope s (suc k) stop (inr (l, _, inr (_, _, inr (_, _, inl h)))
     subst (λ s. IsOfContents (mixed_refusal (enumeration_stop polytope s))) (sym h.told) (h.first.first_unfit.does_not_fit)
 level-reasons polytope s (suc k) stop (inr (l, _, inr (_, _, inr (_, _, inr (_, _, h))))) = absurd h
 
-vertices-reasons : (polytope : ℕ) (s : Parts) (stop : EnumStop) → vertices_in s (Err stop) → IsOfContents (mixed_refusal (enumeration_stop polytope stop))
+vertices-reasons : (polytope : ℕ) (s : LinearSystem) (stop : EnumStop) → vertices_in s (Err stop) → IsOfContents (mixed_refusal (enumeration_stop polytope stop))
 vertices-reasons polytope s stop (inl (k, h)) = level-reasons polytope s k stop h
 vertices-reasons polytope s stop (inr (_, _, h)) = absurd h
 
@@ -82,7 +82,7 @@ text-reasons P (list_stop.TooLarge limit) h = refl
 text-reasons P list_stop.Memory (inl h) = absurd h
 text-reasons P list_stop.Memory (inr h) = cc
 
-both-reasons : (one two : Parts) → AreReasons mixed_refusal (both_vertices_in one two)
+both-reasons : (one two : LinearSystem) → AreReasons mixed_refusal (both_vertices_in one two)
 both-reasons one two stop (inl h) = inner-reasons mixed_refusal (enumeration_stop 0) (vertices_in one) (vertices-reasons 0 one) stop h
 both-reasons one two stop (inr (first, _, inl h)) = inner-reasons mixed_refusal (enumeration_stop 1) (vertices_in two) (vertices-reasons 1 two) stop h
 both-reasons one two stop (inr (first, _, inr (second, _, h))) = only-reasons mixed_refusal _ stop h

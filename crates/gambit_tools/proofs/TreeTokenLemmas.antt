@@ -20,9 +20,9 @@ word_is token word bytes name b t w e =
     words a b e = cc
 
 -- the first token decides
-pub begins_by_first : (tokens : TokenList) (s : Spanned) (rest : List Spanned) (b : Bool) → tokens.list ≡ s ∷ rest → (IsTrue b → s.token ≡ Word (codes "EFG")) × (s.token ≡ Word (codes "EFG") → IsTrue b) → (IsTrue b → BeginsAsTree (bare tokens)) × (BeginsAsTree (bare tokens) → IsTrue b)
+pub begins_by_first : (tokens : TokenList) (s : Spanned) (rest : List Spanned) (b : Bool) → tokens.list ≡ s ∷ rest → (IsTrue b → s.token ≡ Word (codes "EFG")) × (s.token ≡ Word (codes "EFG") → IsTrue b) → (IsTrue b → BeginsAsTree (bare tokens.list)) × (BeginsAsTree (bare tokens.list) → IsTrue b)
 begins_by_first tokens s rest b e is =
-    let split : bare tokens ≡ s.token ∷ map (λ t. t.token) rest = ap (map (λ (t : Spanned). t.token)) e in
+    let split : bare tokens.list ≡ s.token ∷ map (λ t. t.token) rest = ap (map (λ (t : Spanned). t.token)) e in
     (λ h. (map (λ t. t.token) rest, split ∙ ap (λ t. t ∷ map (λ (t : Spanned). t.token) rest) (is.0 h)), λ h. is.1 (heads _ _ _ _ (sym split ∙ h.1)))
   where
     heads : (x y : Token) (xs ys : List Token) → x ∷ xs ≡ y ∷ ys → x ≡ y

@@ -26,7 +26,7 @@ fn is_tree_word(token: &Token) -> bool
 
 // Whether the tokens begin as those of a file of a tree. There are no more tokens than bytes.
 fn begins_as_tree(tokens: &Tokens) -> bool
-    ensures begins { IsTrue result ↔ BeginsAsTree (bare tokens.now) }
+    ensures begins { IsTrue result ↔ BeginsAsTree (bare tokens.now.list) }
     ensures few { length tokens.now.list ≤ tokens.now.length }
 {
     match tokens.list().split_first() {

@@ -12,9 +12,9 @@ pub record TokenList : Type 0 where
   pub list : List Spanned
   pub length : ℕ
 
--- the tokens without their offsets
-abbrev pub bare : TokenList → List Token
-bare tokens = map (λ s. s.token) tokens.list
+-- the tokens without their spans
+abbrev pub bare : List Spanned → List Token
+bare tokens = map (λ s. s.token) tokens
 
 -- a token is stored as its kind, its bytes and its value
 abbrev pub token_parts : Token → ℕ × (List ℕ × ℚ)

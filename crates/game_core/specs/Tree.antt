@@ -134,12 +134,3 @@ pub record IsPartialTree (t : GameTree) (free : List OpenBranch) : Type 0 where
 -- a game tree within the limits leaves no branch open
 abbrev pub IsGameTree : GameTree → Type 0
 IsGameTree t = IsPartialTree t []
-
--- the numbers of player i's own sets in order, where the sets are numbered from s on
-abbrev pub own_from : ℕ → ℕ → List InformationSet → List ℕ
-own_from s i [] = []
-own_from s i (set ∷ sets) = if is_index set.owner i then s ∷ own_from (suc s) i sets else own_from (suc s) i sets
-
--- the numbers of player i's own sets in order
-abbrev pub own_sets : GameTree → ℕ → List ℕ
-own_sets t i = own_from 0 i t.sets

@@ -30,7 +30,7 @@ pub use outside::{
     Gate, Inputs, MemInputs, MemSink, OpenFailed, OpenGate, ReadFailed, RealInputs, RealSink, Sink,
     WriteFailed,
 };
-pub use profiles::{profile_count, set_profile};
+pub use profiles::{profile_count, push_sure, set_profile};
 pub use table::{MOST_PAYOFFS, Table};
 pub use text_limit::{MOST_TEXT, too_long_text};
 pub use token::{Spanned, Token, Tokens};

@@ -1,9 +1,10 @@
 // Games as trees.
 ghost use Rattle.std.specs.Prelude.{◌≡◌, ◌<◌, ◌^◌, [], All, length, map, slice_get, IfOk};
 ghost use Rattle.game_theory.specs.FirstNodes.{AreNumberedByFirstNodes};
+ghost use Rattle.game_theory.specs.OwnSets.{own_sets};
 ghost use Rattle.game_theory.specs.Trees.{IsTree as is_game_tree};
 ghost use Rattle.game_core.specs.OwnSets.{AreOwnLists};
-ghost use Rattle.game_core.specs.Tree.{IsGameTree, IsBelow, GameTree, own_sets};
+ghost use Rattle.game_core.specs.Tree.{IsGameTree, IsBelow, GameTree};
 ghost use Rattle.game_core.specs.TreeGame.{game_of_tree};
 
 use crate::name::Name;
@@ -340,7 +341,7 @@ impl Tree {
     /// The number of the set at this place among a player's own sets in order; nothing exactly where the player
     /// has no more sets. Takes no memory.
     pub fn own_sets(&self, player: u32, place: u32) -> Option<u32>
-        ensures { result ≡ slice_get (own_sets self.now player) place }
+        ensures { result ≡ slice_get (own_sets (game_of_tree self.now) player) place }
     {
         let list = self.own.get(player as usize)?;
         let set = list.get(place as usize)?;

@@ -1,7 +1,9 @@
 // The parts of a tree's nodes and information sets, as the game has them that the tree stands for.
 // Nothing here takes memory.
-ghost use Rattle.std.specs.Prelude.{◌≡◌, ◌<◌, length};
+ghost use Rattle.std.specs.Prelude.{◌≡◌, ◌<◌, length, MatchOption};
+ghost use Rattle.game_theory.specs.Behaviour.{is_own};
 ghost use Rattle.game_theory.specs.FirstNodes.{AreNumberedByFirstNodes};
+ghost use Rattle.game_theory.specs.OwnSets.{Chooses, NobodyChooses};
 ghost use Rattle.game_theory.specs.Trees.{IsTree as is_game_tree};
 ghost use Rattle.game_core.specs.Tree.{IsGameTree};
 ghost use Rattle.game_core.specs.TreeGame.{game_of_tree};
@@ -50,6 +52,29 @@ pub fn owner(tree: &Tree, set: usize) -> Option<u32>
     ensures { result ≡ (game_of_tree tree.now).owner set }
 {
     tree.sets()[set].owner()
+}
+
+/// Whether a player owns a set.
+pub fn is_own(tree: &Tree, set: usize, player: u32) -> bool
+    requires { set < length tree.now.sets }
+    ensures { result ≡ is_own (game_of_tree tree.now) player set }
+{
+    match owner(tree, set) {
+        Some(own) => own == player,
+        None => false,
+    }
+}
+
+/// The player who chooses at a node, and the node's set; nothing where no player does.
+pub fn choice_at(tree: &Tree, node: usize) -> Option<(u32, u32)>
+    requires { node < length tree.now.nodes }
+    ensures { MatchOption result (NobodyChooses (game_of_tree tree.now) node)
+        (λ it. Chooses (game_of_tree tree.now) node it.0 it.1) }
+{
+    stands_for_game_tree(tree);
+    let set = set(tree, node)?;
+    let player = owner(tree, set as usize)?;
+    Some((player, set))
 }
 
 /// How many actions a set has.

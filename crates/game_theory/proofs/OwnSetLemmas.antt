@@ -1,11 +1,12 @@
 -- A player's own sets.
-use Rattle.std.proofs.Common.{ℕ, zero, suc, ◌<◌, ◌≤◌, ◌≡◌, ◌⊎◌, inl, inr, Bool, true, false, Decides, Option, Some, None, List, [], ◌∷◌, ◌++◌, refl, ap, subst, arith}
-use Rattle.std.specs.Prelude.{◌==◌, if◌then◌else◌}
-use Rattle.std.proofs.lemmas.Bool.{cases_lt}
-use Rattle.std.proofs.lemmas.Bool.Decides.{Decides-eqb, Decides-like, not_from_Decides}
+use Rattle.std.proofs.Common.{ℕ, zero, suc, ◌+◌, ◌<◌, ◌≤◌, ◌≡◌, ◌⊎◌, inl, inr, Bool, true, false, Decides, Option, Some, None, List, [], ◌∷◌, ◌++◌, refl, sym, ap, subst, ◌∙◌, add-one, arith}
+use Rattle.std.specs.Prelude.{◌==◌, if◌then◌else◌, filter}
+use Rattle.std.specs.List.{range_with_len}
+use Rattle.std.proofs.lemmas.Bool.{cases_eq, cases_Bool}
+use Rattle.std.proofs.lemmas.Bool.Decides.{Decides-eqb, Decides-like}
 use Rattle.game_theory.specs.Trees.{Tree}
 use Rattle.game_theory.specs.Behaviour.{is_index, is_own}
-use Rattle.game_theory.specs.OwnSets.{own_below, own_sets}
+use Rattle.game_theory.specs.OwnSets.{own_sets}
 
 -- whether there is a number, and it is i
 pub is_index-decides : (o : Option ℕ) (i : ℕ) → Decides (is_index o i) (o ≡ Some i)
@@ -15,6 +16,10 @@ is_index-decides (Some j) i = Decides-like (j == i) (λ e. ap Some e) (λ e. cc)
 -- whether a set is player i's own
 pub is_own-decides : (t : Tree) (i s : ℕ) → Decides (is_own t i s) (t.owner s ≡ Some i)
 is_own-decides t i s = is_index-decides (t.owner s) i
+
+-- what such a test answered tells of the owner
+pub is_own-told : (t : Tree) (i s : ℕ) (b : Bool) → b ≡ is_own t i s → Decides b (t.owner s ≡ Some i)
+is_own-told t i s b e = subst (λ x. Decides x (t.owner s ≡ Some i)) (sym e) (is_own-decides t i s)
 
 -- s is one of the sets
 abbrev pub IsAmong : List ℕ → ℕ → Type 0
@@ -54,48 +59,61 @@ IsAmong-from n [] s o h = absurd h
 IsAmong-from n (set ∷ sets) s o (inl e) = omega (arith, o.0)
 IsAmong-from n (set ∷ sets) s o (inr h) = omega (arith, o.0, IsAmong-from (suc set) sets s o.1 h)
 
+-- ---- numbers that a test picks
+-- one of the numbers that passes the test is among those that do
+filter-has : (p : ℕ → Bool) (numbers : List ℕ) (s : ℕ) → IsAmong numbers s → p s ≡ true → IsAmong (filter p numbers) s
+filter-has p [] s h passes = absurd h
+filter-has p (n ∷ numbers) s (inl e) passes = rw (ap p e ∙ passes) (inl e)
+filter-has p (n ∷ numbers) s (inr h) passes = elim (cases_Bool (p n)) [
+  | inl e ↦ rw e (inr (filter-has p numbers s h passes))
+  | inr e ↦ rw e (filter-has p numbers s h passes)
+]
+
+-- no other is
+filter-tells : (p : ℕ → Bool) (numbers : List ℕ) (s : ℕ) → IsAmong (filter p numbers) s → IsAmong numbers s × (p s ≡ true)
+filter-tells p [] s h = absurd h
+filter-tells p (n ∷ numbers) s h = go (p n) refl h (filter-tells p numbers s)
+  where
+    go : (b : Bool) → p n ≡ b → IsAmong (if b then n ∷ filter p numbers else filter p numbers) s → (IsAmong (filter p numbers) s → IsAmong numbers s × (p s ≡ true)) → IsAmong (n ∷ numbers) s × (p s ≡ true)
+    go true passes (inl e) later = (inl e, ap p (sym e) ∙ passes)
+    go true passes (inr found) later = (inr (later found).0, (later found).1)
+    go false fails found later = (inr (later found).0, (later found).1)
+
+-- they ascend as the numbers do
+filter-ascends : (p : ℕ → Bool) (m : ℕ) (numbers : List ℕ) → AscendFrom m numbers → AscendFrom m (filter p numbers)
+filter-ascends p m [] o = o
+filter-ascends p m (n ∷ numbers) o =
+    let rest = filter-ascends p (suc n) numbers o.1 in
+    elim (cases_Bool (p n)) [ inl e ↦ rw e (o.0, rest) | inr e ↦ rw e (AscendFrom-earlier m (suc n) (filter p numbers) (omega (arith, o.0)) rest) ]
+
+-- ---- numbers one after another
+-- a number in the range is among them
+range-has : (m n s : ℕ) → m ≤ s → s < m + n → IsAmong (range_with_len m n) s
+range-has m zero s from below = absurd (omega (arith, from, below))
+range-has m (suc n) s from below = elim (cases_eq m s) [ inl e ↦ inl e | inr e ↦ inr (range-has (m + 1) n s (omega arith) (omega arith)) ]
+
+-- no other is
+range-tells : (m n s : ℕ) → IsAmong (range_with_len m n) s → s < m + n
+range-tells m zero s h = absurd h
+range-tells m (suc n) s (inl e) = omega arith
+range-tells m (suc n) s (inr h) = omega (arith, range-tells (m + 1) n s h)
+
+-- they ascend
+range-ascends : (m n : ℕ) → AscendFrom m (range_with_len m n)
+range-ascends m zero = tt
+range-ascends m (suc n) = (omega arith, subst (λ k. AscendFrom k (range_with_len (m + 1) n)) (add-one m) (range-ascends (m + 1) n))
+
 -- ---- the own sets
--- the own sets ascend
-own_below-ascend : (t : Tree) (i n : ℕ) (later : List ℕ) → AscendFrom n later → AscendFrom 0 (own_below t i n later)
-own_below-ascend t i zero later o = o
-own_below-ascend t i (suc n) later o = own_below-ascend t i n (if is_own t i n then n ∷ later else later) (go (is_own t i n))
-  where
-    go : (b : Bool) → AscendFrom n (if b then n ∷ later else later)
-    go true = (omega arith, o)
-    go false = AscendFrom-earlier n (suc n) later (omega arith) o
-
--- the own sets below n are among them
-own_below-has : (t : Tree) (i n : ℕ) (later : List ℕ) (s : ℕ) → IsAmong later s ⊎ ((s < n) × (t.owner s ≡ Some i)) → IsAmong (own_below t i n later) s
-own_below-has t i zero later s (inl h) = h
-own_below-has t i zero later s (inr h) = absurd (omega (arith, h.0))
-own_below-has t i (suc n) later s h = own_below-has t i n (if is_own t i n then n ∷ later else later) s (go (is_own t i n) (is_own-decides t i n) h)
-  where
-    go : (b : Bool) → Decides b (t.owner n ≡ Some i) → IsAmong later s ⊎ ((s < suc n) × (t.owner s ≡ Some i)) → IsAmong (if b then n ∷ later else later) s ⊎ ((s < n) × (t.owner s ≡ Some i))
-    go true d (inl a) = inl (inr a)
-    go false d (inl a) = inl a
-    go true d (inr p) = elim (cases_lt s n) [ inl l ↦ inr (l, p.1) | inr l ↦ inl (inl (omega (arith, p.0))) ]
-    go false d (inr p) =
-        elim (cases_lt s n) [ inl l ↦ inr (l, p.1) | inr l ↦ (let e : s ≡ n = omega (arith, p.0) in absurd (not_from_Decides false d refl (subst (λ x. t.owner x ≡ Some i) e p.1))) ]
-
--- no other set is among them
-own_below-tells : (t : Tree) (i n : ℕ) (later : List ℕ) (s : ℕ) → IsAmong (own_below t i n later) s → IsAmong later s ⊎ ((s < n) × (t.owner s ≡ Some i))
-own_below-tells t i zero later s h = inl h
-own_below-tells t i (suc n) later s h = go (is_own t i n) (is_own-decides t i n) (own_below-tells t i n (if is_own t i n then n ∷ later else later) s h)
-  where
-    go : (b : Bool) → Decides b (t.owner n ≡ Some i) → IsAmong (if b then n ∷ later else later) s ⊎ ((s < n) × (t.owner s ≡ Some i)) → IsAmong later s ⊎ ((s < suc n) × (t.owner s ≡ Some i))
-    go b d (inr p) = inr (omega (arith, p.0), p.1)
-    go true d (inl (inl e)) = inr (omega arith, subst (λ x. t.owner x ≡ Some i) e (d.0 refl))
-    go true d (inl (inr a)) = inl a
-    go false d (inl a) = inl a
-
 -- an own set is one of the own sets
 pub own_sets-has : (t : Tree) (i s : ℕ) → s < t.sets → t.owner s ≡ Some i → IsAmong (own_sets t i) s
-own_sets-has t i s l o = own_below-has t i t.sets [] s (inr (l, o))
+own_sets-has t i s l o = filter-has (is_own t i) (range_with_len 0 t.sets) s (range-has 0 t.sets s (omega arith) (omega arith)) ((is_own-decides t i s).1 o)
 
 -- one of the own sets is an own set
 pub own_sets-tell : (t : Tree) (i s : ℕ) → IsAmong (own_sets t i) s → (s < t.sets) × (t.owner s ≡ Some i)
-own_sets-tell t i s h = elim (own_below-tells t i t.sets [] s h) [ inl a ↦ absurd a | inr p ↦ p ]
+own_sets-tell t i s h =
+    let found = filter-tells (is_own t i) (range_with_len 0 t.sets) s h in
+    (omega (arith, range-tells 0 t.sets s found.0), (is_own-decides t i s).0 found.1)
 
 -- the own sets ascend
 pub own_sets-ascend : (t : Tree) (i : ℕ) → AscendFrom 0 (own_sets t i)
-own_sets-ascend t i = own_below-ascend t i t.sets [] tt
+own_sets-ascend t i = filter-ascends (is_own t i) 0 (range_with_len 0 t.sets) (range-ascends 0 t.sets)

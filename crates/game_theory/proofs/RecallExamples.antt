@@ -32,7 +32,7 @@ first-tells t i s k h o e =
 
 -- who chooses only once on each path recalls all
 recall_of_first : (t : Tree) (i : ℕ) → each_below (is_first t i) t.size ≡ true → HasPerfectRecall t i
-recall_of_first t i h s k l o p q e f =
+recall_of_first t i h s o k l p q e f =
     first-tells t i s k (each_below-tells (is_first t i) t.size h k p) o e ∙ sym (first-tells t i s l (each_below-tells (is_first t i) t.size h l q) o f)
 
 -- the action of the first step
@@ -43,7 +43,7 @@ first_action (x ∷ xs) = x.1
 -- nodes 2 and 7 share a set, but action 0 leads to the one and action 1 to the other
 forgets : HasPerfectRecall forgetful_game 0 → ⊥
 forgets h =
-    let same : zero ≡ suc zero = ap first_action (h 1 2 7 refl (omega arith) (omega arith) refl refl) in
+    let same : zero ≡ suc zero = ap first_action (h 1 refl 2 7 (omega arith) (omega arith) refl refl) in
     cc
 
 -- the law of the two games

@@ -19,8 +19,12 @@ history_to t i (suc n) (suc k) = history_to t i n (t.parent (suc k)) ++ own_edge
 abbrev pub own_history : Tree → ℕ → ℕ → List (ℕ × ℕ)
 own_history t i k = history_to t i k k
 
--- the nodes of each own set of player i have the same own history
-abbrev pub HasPerfectRecall : Tree → ℕ → Type 0
-HasPerfectRecall t i =
-    (s k l : ℕ) → t.owner s ≡ Some i → k < t.size → l < t.size → t.set k ≡ Some s → t.set l ≡ Some s
+-- the nodes of set s have one own history for player i
+abbrev pub HaveOneHistory : Tree → ℕ → ℕ → Type 0
+HaveOneHistory t i s =
+    (k l : ℕ) → k < t.size → l < t.size → t.set k ≡ Some s → t.set l ≡ Some s
     → own_history t i k ≡ own_history t i l
+
+-- the nodes of each own set of player i have one
+abbrev pub HasPerfectRecall : Tree → ℕ → Type 0
+HasPerfectRecall t i = (s : ℕ) → t.owner s ≡ Some i → HaveOneHistory t i s

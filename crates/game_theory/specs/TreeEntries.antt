@@ -1,6 +1,6 @@
 -- The entries of behaviour on a tree, in the order in which they are printed.
-use Rattle.std.specs.Prelude.{ℕ, zero, suc, List, [], ◌++◌}
-use Rattle.std.specs.List.{flat_map}
+use Rattle.std.specs.Prelude.{ℕ, List}
+use Rattle.std.specs.List.{flat_map, range_with_len}
 use Rattle.game_theory.specs.OwnSets.{own_sets}
 use Rattle.rational.specs.Rational.{ℚ}
 use Rattle.game_theory.specs.Lines.{listed}
@@ -11,11 +11,10 @@ use Rattle.game_theory.specs.Behaviour.{Behaviour}
 abbrev pub own_entries : Tree → Behaviour → ℕ → List ℚ
 own_entries t b i = flat_map (λ s. listed (t.actions s) (b s)) (own_sets t i)
 
--- the entries of n players from player i on
-abbrev pub entries_from : Tree → Behaviour → ℕ → ℕ → List ℚ
-entries_from t b i zero = []
-entries_from t b i (suc n) = own_entries t b i ++ entries_from t b (suc i) n
+-- the entries of the first n players
+abbrev pub entries_below : Tree → Behaviour → ℕ → List ℚ
+entries_below t b n = flat_map (own_entries t b) (range_with_len 0 n)
 
 -- the entries of behaviour: the probabilities of all actions, player by player
 abbrev pub tree_entries : Tree → Behaviour → List ℚ
-tree_entries t b = entries_from t b 0 t.players
+tree_entries t b = entries_below t b t.players

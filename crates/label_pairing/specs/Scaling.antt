@@ -5,7 +5,7 @@ use Rattle.rational.specs.Rational.{ℚ, ◌≤ℚ◌, zero_ℚ}
 use Rattle.rational.specs.Sum.{entry_at, sum_to}
 use Rattle.frac128.specs.Steps.{unfit, Step}
 use Rattle.frac128.specs.declared.steps.Op.TheVariants.{Add, Div}
-use Rattle.extreme_equilibria.specs.Polytopes.{IsNonzero}
+use Rattle.linear_systems.specs.Points.{IsNonzero}
 
 -- a point without negative entries that is not 0
 pub record IsScalable (point : List ℚ) : Type 0 where

@@ -7,7 +7,7 @@ use Rattle.lex_tableau.specs.Rows.{tableau}
 use Rattle.lex_tableau.specs.StartStops.{start_in, IsStarted}
 use Rattle.lex_tableau.specs.declared.tableau.StartStop.{StartStop}
 use Rattle.lex_tableau.specs.declared.tableau.StartStop.TheVariants as starts
-use Rattle.lex_tableau.specs.Starts.{Parts, system_of}
+use Rattle.lex_tableau.specs.Starts.{LinearSystem, system_of}
 use Rattle.game_core.specs.Limits.{most_rows, within}
 use Rattle.game_core.specs.declared.too_large.TooLarge.{TooLarge}
 use Rattle.game_core.specs.declared.too_large.What.TheVariants as what
@@ -40,7 +40,7 @@ module _ (f : FormData) where
       gives_bind {Z = Problem} stops.Memory size_stage (λ _. cost_stage >> form_start_in f) tt answer few (gives_bind {Z = Problem} stops.Memory cost_stage (λ _. form_start_in f) tt answer h g)
 
 -- ---- the start
-module _ (f : FormData) (s : Parts) (is_system : IsSystemOf f s) where
+module _ (f : FormData) (s : LinearSystem) (is_system : IsSystemOf f s) where
   pub start_stop : (stop : StartStop) → Gives starts.Memory (start_in s) (Err stop) → Gives stops.Memory (form_start_in f) (Err (told_start stop))
   start_stop stop (inl m) = inl (ap told_start m)
   start_stop stop (inr h) = inr (inl (stop, (s, (is_system, h)), refl))

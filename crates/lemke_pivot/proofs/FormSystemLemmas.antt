@@ -15,7 +15,7 @@ use Rattle.sequence_forms.specs.Lists.{listed_at}
 use Rattle.sequence_forms.specs.Prices.{costs}
 use Rattle.sequence_forms.specs.Sides.{Side, sequences}
 use Rattle.lemke_pivot.specs.Problems.{Costs, costs_of, matrix, right_sides, rows_x, rows_y, size}
-use Rattle.lex_tableau.specs.Starts.{Parts, system_of}
+use Rattle.lex_tableau.specs.Starts.{LinearSystem, system_of}
 use Rattle.sequence_data.specs.declared.types.Cell.{Cell}
 use Rattle.sequence_data.specs.Data.{FormData, IsFormData, LeafFits, SideData, form, side_of}
 use Rattle.sequence_data.proofs.GainLemmas.{costs_positive_one, costs_positive_two}
@@ -102,7 +102,7 @@ module _ (f : FormData) (valid : IsFormData f) where
   costs_are payoff most numbers held e holds r q hr hq =
       ap (λ n. get_or held (r * n + q) zero_ℚ) (sym second_count) ∙ holds r q (subst (λ n. r < n) (sym first_count) hr) (subst (λ n. q < n) (sym second_count) hq) ∙ ap (λ xs. listed_at (placed f.cells xs) r q) e ∙ placed_costs payoff most f.cells r q
 
-  system_has_costs : (one two held_one held_two : List ℚ) (s : Parts) → one ≡ map (cost_one f.greatest_one) f.cells → two ≡ map (cost_two f.greatest_two) f.cells → HoldsNumbers f.first.sequences f.second.sequences (placed f.cells one) held_one → HoldsNumbers f.first.sequences f.second.sequences (placed f.cells two) held_two → IsSystemFor f.first f.second (number_at held_one (sequences (side_of f.second))) (number_at held_two (sequences (side_of f.second))) s → IsSystemOf f s
+  system_has_costs : (one two held_one held_two : List ℚ) (s : LinearSystem) → one ≡ map (cost_one f.greatest_one) f.cells → two ≡ map (cost_two f.greatest_two) f.cells → HoldsNumbers f.first.sequences f.second.sequences (placed f.cells one) held_one → HoldsNumbers f.first.sequences f.second.sequences (placed f.cells two) held_two → IsSystemFor f.first f.second (number_at held_one (sequences (side_of f.second))) (number_at held_two (sequences (side_of f.second))) s → IsSystemOf f s
   system_has_costs one two held_one held_two s e g holds_one holds_two w =
       record {
         valid = w.valid;
@@ -127,7 +127,7 @@ module _ (f : FormData) (valid : IsFormData f) (cells : List Cell) (x y : ℕ) (
   held numbers found h = subst₂ (λ a b. HoldsNumbers a b (placed f.cells numbers) found) ex ey (subst (λ xs. HoldsNumbers x y (placed xs numbers) found) ec h)
 
   module _ (one two held_one held_two seen_one seen_two : List ℚ) (one_is : one ≡ map (cost_one f.greatest_one) f.cells) (two_is : two ≡ map (cost_two f.greatest_two) f.cells) (holds_one : HoldsNumbers x y (placed cells one) held_one) (holds_two : HoldsNumbers x y (placed cells two) held_two) (seen_one_is : seen_one ≡ held_one) (seen_two_is : seen_two ≡ held_two) where
-    pub system_read : {R : Type 0} (r : Result Parts R) (first second : SideData) → first ≡ f.first → second ≡ f.second → IfOk r (IsSystemFor first second (number_at seen_one (sequences (side_of second))) (number_at seen_two (sequences (side_of second)))) → IfOk r (IsSystemOf f)
+    pub system_read : {R : Type 0} (r : Result LinearSystem R) (first second : SideData) → first ≡ f.first → second ≡ f.second → IfOk r (IsSystemFor first second (number_at seen_one (sequences (side_of second))) (number_at seen_two (sequences (side_of second)))) → IfOk r (IsSystemOf f)
     system_read r first second e g w =
         let found : IfOk r (IsSystemFor f.first f.second (number_at held_one (sequences (side_of f.second))) (number_at held_two (sequences (side_of f.second)))) =
         subst₂ (λ a b. IfOk r (IsSystemFor a b (number_at held_one (sequences (side_of b))) (number_at held_two (sequences (side_of b))))) e g
@@ -135,7 +135,7 @@ module _ (f : FormData) (valid : IsFormData f) (cells : List Cell) (x y : ℕ) (
         if_ok-then r _ (IsSystemOf f) found (λ s k. system_has_costs f valid one two held_one held_two s one_is two_is (held one held_one holds_one) (held two held_two holds_two) k)
 
 -- the system of a form is that of a problem
-pub for_sides : (f : FormData) (s : Parts) (first second : SideData) → IsFormData f → first ≡ f.first → second ≡ f.second → IsSystemOf f s → (one two : ℕ → ℕ → ℚ) × CostsAreNotNegative (costs_of (side_of first) (side_of second) one two) × IsSystemFor first second one two s
+pub for_sides : (f : FormData) (s : LinearSystem) (first second : SideData) → IsFormData f → first ≡ f.first → second ≡ f.second → IsSystemOf f s → (one two : ℕ → ℕ → ℚ) × CostsAreNotNegative (costs_of (side_of first) (side_of second) one two) × IsSystemFor first second one two s
 for_sides f s first second valid e g h =
     let one = costs (form f) 0 f.greatest_one in
     let two = costs (form f) 1 f.greatest_two in

@@ -1,25 +1,25 @@
 -- what the walk keeps
-use Rattle.std.proofs.Common.{ℕ, zero, suc, ◌<◌, ◌≤◌, ◌≡◌, ◌≢◌, ◌+◌, ◌^◌, inr, List, [], ◌∷◌, length, map, get_or, Option, Some, None, refl, sym, ap, ap₂, ◌∙◌, subst, arith, All}
+use Rattle.std.proofs.Common.{ℕ, zero, suc, ◌<◌, ◌≤◌, ◌≡◌, ◌≢◌, ◌+◌, ◌^◌, inr, List, [], ◌∷◌, length, map, get_or, Some, None, refl, sym, ap, ap₂, ◌∙◌, subst, arith, All}
 use Rattle.std.proofs.lemmas.List.{length-map}
-use Rattle.rational.specs.Rational.{ℚ, ◌-ℚ◌, ◌*ℚ◌, inv_ℚ, zero_ℚ, ◌≤ℚ◌}
+use Rattle.rational.specs.Rational.{ℚ, ◌-ℚ◌, ◌*ℚ◌, inv_ℚ, zero_ℚ}
 use Rattle.rational.proofs.Field.{not_lt_of_le}
 use Rattle.linear_systems.specs.Rows.{basic_solution, key, Alike, IsLexicographicRow}
 use Rattle.linear_systems.proofs.LexLemmas.{lex_same}
 use Rattle.frac128.specs.declared.steps.Unfit.{Unfit}
-use Rattle.lex_tableau.specs.Rows.{Numbers, tableau, IsTableau, IsPivotOf}
-use Rattle.lex_tableau.specs.Ratio.{variable_at, IsBest}
+use Rattle.lex_tableau.specs.Rows.{WholeTableau, tableau, IsNonbasicColumn, IsTableau, IsPivotOf}
+use Rattle.lex_tableau.specs.Ratio.{variable_at, IsLeavingRow, IsRatioRow}
 use Rattle.frac128.specs.Steps.{StepFits, IsFirstUnfit}
-use Rattle.lex_tableau.specs.Pivots.{pivot_number, steps_of_pivot}
+use Rattle.lex_tableau.specs.Pivots.{IsFittingPivot, pivot_number, steps_of_pivot}
 use Rattle.lemke_pivot.specs.ProblemPaths.{w_of, z_of, z0_of, complement, start, PathTo}
 use Rattle.lemke_pivot.proofs.KeyLemmas.{HasPositiveKeys, nonbasic_which}
 use Rattle.linear_systems.proofs.AgreementLemmas.{alike_trans, alike_pivot}
 use Rattle.lemke_pivot.proofs.FirstBasisLemmas.{entry_not}
 use Rattle.lemke_pivot.proofs.ProblemPathLemmas.{keys, short, leaving_row, next_is_out, basic_is_variable}
-use Rattle.lemke_pivot.specs.Paths.{ExactPathTo, EndsSolved, EndsUnfit, IsPathStart, IsNonbasic}
+use Rattle.lemke_pivot.specs.Paths.{ExactPathTo, EndsSolved, EndsUnfit, IsPathStart}
 
 -- the path has come to t, and c is next; a step was counted for each pivot
-pub record OnWalk (n r : ℕ) (m t : Numbers) (c from now step : ℕ) : Type 0 where
-  pub earlier : List Numbers
+pub record OnWalk (n r : ℕ) (m t : WholeTableau) (c from now step : ℕ) : Type 0 where
+  pub earlier : List WholeTableau
   pub path : ExactPathTo m n r earlier t c
   pub counts : from + suc (length earlier) ≡ now
   pub number : step ≡ pivot_number (suc (length earlier))
@@ -27,11 +27,11 @@ pub record OnWalk (n r : ℕ) (m t : Numbers) (c from now step : ℕ) : Type 0 w
   pub rated : t.rated ≡ n
 
 -- the path over whole numbers is one over fractions
-pub path_of_numbers : (n r : ℕ) (m : Numbers) (M : ℕ → ℕ → ℚ) (b : ℕ → ℚ) → Alike (start n M b) (tableau m) → r < n → (ss : List Numbers) (t : Numbers) (c : ℕ) → ExactPathTo m n r ss t c → PathTo n M b r (map tableau ss) (tableau t) c
-path_of_numbers n r m M b a h [] t c p = (alike_trans _ _ (tableau t) (alike_pivot (start n M b) (tableau m) r n h (omega arith) a) p.0.pivot.fractions, p.1)
+pub path_of_numbers : (n r : ℕ) (m : WholeTableau) (M : ℕ → ℕ → ℚ) (b : ℕ → ℚ) → Alike (start n M b) (tableau m) → r < n → (ss : List WholeTableau) (t : WholeTableau) (c : ℕ) → ExactPathTo m n r ss t c → PathTo n M b r (map tableau ss) (tableau t) c
+path_of_numbers n r m M b a h [] t c p = (alike_trans _ _ (tableau t) (alike_pivot (start n M b) (tableau m) r n h (omega arith) a) p.1.pivot.fractions, p.2)
 path_of_numbers n r m M b a h (s ∷ ss) t c p = (p.0, p.1, path_of_numbers n r m M b a h ss s p.0 p.2, p.3, p.4.replaces, p.5)
 
-module _ (n r : ℕ) (m : Numbers) (S : IsPathStart n r m) where
+module _ (n r : ℕ) (m : WholeTableau) (S : IsPathStart n r m) where
   start_rows : length m.basics ≡ n
   start_rows = sym S.alike.rows
 
@@ -44,13 +44,13 @@ module _ (n r : ℕ) (m : Numbers) (S : IsPathStart n r m) where
   pub z0_entry : (tableau m).cell r n ≢ zero_ℚ
   z0_entry e = entry_not n S.matrix S.right r S.first (S.alike.cell r n S.first.is_least.within (omega arith) ∙ e)
 
-  exact_path : (ss : List Numbers) (t : Numbers) (c : ℕ) → ExactPathTo m n r ss t c → PathTo n S.matrix S.right r (map tableau ss) (tableau t) c
+  exact_path : (ss : List WholeTableau) (t : WholeTableau) (c : ℕ) → ExactPathTo m n r ss t c → PathTo n S.matrix S.right r (map tableau ss) (tableau t) c
   exact_path = path_of_numbers n r m S.matrix S.right S.alike S.first.is_least.within
 
-  pub walk_begins : (t : Numbers) (from now : ℕ) → IsPivotOf m r n t → All StepFits (steps_of_pivot m r n) → now ≡ from + 1 → OnWalk n r m t (z_of n r) from now 1
-  walk_begins t from now p f e = record { earlier = []; path = (record { valid = S.valid; pivot = p; fits = f }, refl); counts = omega (arith, e); number = refl; starts = p.starts; rated = p.rated ∙ S.rated }
+  pub walk_begins : (t : WholeTableau) (from now : ℕ) → IsTableau t → IsPivotOf m r n t → All StepFits (steps_of_pivot m r n) → now ≡ from + 1 → OnWalk n r m t (z_of n r) from now 1
+  walk_begins t from now v p f e = record { earlier = []; path = (S.valid, record { is_tableau = v; pivot = p; fits = f }, refl); counts = omega (arith, e); number = refl; starts = p.starts; rated = p.rated ∙ S.rated }
 
-  module _ (t : Numbers) (c from now step : ℕ) (o : OnWalk n r m t c from now step) where
+  module _ (t : WholeTableau) (c from now step : ℕ) (o : OnWalk n r m t c from now step) where
     path : PathTo n S.matrix S.right r (map tableau o.earlier) (tableau t) c
     path = exact_path o.earlier t c o.path
 
@@ -60,11 +60,8 @@ module _ (n r : ℕ) (m : Numbers) (S : IsPathStart n r m) where
     pub rows_are : length t.basics ≡ n
     rows_are = here.reached.rows
 
-    pub columns_are : n + 1 ≡ length t.nonbasics
-    columns_are = let e : length t.nonbasics ≡ suc n = here.reached.width in omega (arith, e)
-
-    pub walk_value : (t₁ : Numbers) (v : ℕ) (q : ℚ) → t₁ ≡ t → v ≡ z0_of n → q ≡ basic_solution (tableau t₁) v → q ≡ basic_solution (tableau t) (z0_of n)
-    walk_value t₁ v q e f V = V ∙ ap₂ (λ (m : Numbers) (k : ℕ). basic_solution (tableau m) k) e f
+    pub walk_value : (t₁ : WholeTableau) (v : ℕ) (q : ℚ) → t₁ ≡ t → v ≡ z0_of n → q ≡ basic_solution (tableau t₁) v → q ≡ basic_solution (tableau t) (z0_of n)
+    walk_value t₁ v q e f V = V ∙ ap₂ (λ (m : WholeTableau) (k : ℕ). basic_solution (tableau m) k) e f
 
     pub walk_bound : now ≤ from + 2 ^ suc (suc (n + n))
     walk_bound =
@@ -72,23 +69,23 @@ module _ (n r : ℕ) (m : Numbers) (S : IsPathStart n r m) where
         let e : from + suc (length o.earlier) ≡ now = o.counts in
         omega (arith, h, e)
 
-    pub walk_solved : basic_solution (tableau t) (z0_of n) ≡ zero_ℚ → IsTableau t → EndsSolved m n r t
-    walk_solved z v = (o.earlier, c, o.path, z, v)
+    pub walk_solved : basic_solution (tableau t) (z0_of n) ≡ zero_ℚ → EndsSolved m n r t
+    walk_solved z = (o.earlier, c, o.path, z)
 
     module _ (ne : basic_solution (tableau t) (z0_of n) ≢ zero_ℚ) where
-      pub walk_nonbasic : IsNonbasic t (n + 1) c
-      walk_nonbasic =
+      pub walk_stands : (t₁ : WholeTableau) → t₁ ≡ t → IsNonbasicColumn t₁ c None → ⊥
+      walk_stands t₁ e none =
           let w = next_is_out n S.matrix S.right r S.first (map tableau o.earlier) (tableau t) c path ne in
           let a : 0 < c = w.0 in
           let b : c ≤ n + n = w.1 in
           let j = nonbasic_which n S.matrix S.right (tableau t) here.reached c a (omega arith) w.2 in
-          (j.0, subst (λ k. j.0 < k) (sym columns_are) j.1, j.2)
+          subst (λ m. IsNonbasicColumn m c None) e none j.0 j.1 j.2
 
       pub walk_variable : (i : ℕ) → i < n → (0 < (tableau t).basic i) × ((tableau t).basic i ≤ z0_of n)
       walk_variable i h = basic_is_variable n S.matrix S.right r S.first (map tableau o.earlier) (tableau t) c i path ne (subst (λ k. i < k) (sym rows_are) h)
 
       -- the row that the tableau finds is the path's
-      walk_row : (col row : ℕ) → IsLexicographicRow t.rated t.rated (variable_at t.starts) (tableau t) col row → IsLexicographicRow n n w_of (tableau t) col row
+      walk_row : (col row : ℕ) → IsLeavingRow t col row → IsLexicographicRow n n w_of (tableau t) col row
       walk_row col row L =
           let K : IsLexicographicRow n n (variable_at t.starts) (tableau t) col row = subst (λ k. IsLexicographicRow k k (variable_at t.starts) (tableau t) col row) o.rated L in
           record {
@@ -101,28 +98,25 @@ module _ (n r : ℕ) (m : Numbers) (S : IsPathStart n r m) where
           same i zero h = refl
           same i (suc q) h = ap (λ v. key (λ _. v) (tableau t) i 1) (ap (λ s. get_or s q 0) o.starts ∙ S.starts q (omega arith))
 
-      pub walk_best : (t₁ : Numbers) (col row : ℕ) (o : Option ℕ) → t₁ ≡ t → o ≡ Some row → IsBest t₁.rated t₁.rated t₁.starts (tableau t₁) col o → IsLexicographicRow n n w_of (tableau t) col row
-      walk_best t₁ col row o e f B = walk_row col row (subst (λ m. IsBest m.rated m.rated m.starts (tableau m) col (Some row)) e (subst (λ p. IsBest t₁.rated t₁.rated t₁.starts (tableau t₁) col p) f B))
+      pub walk_best : (t₁ : WholeTableau) (col row : ℕ) → t₁ ≡ t → IsLeavingRow t₁ col row → IsLexicographicRow n n w_of (tableau t) col row
+      walk_best t₁ col row e B = walk_row col row (subst (λ m. IsLeavingRow m col row) e B)
 
-      never : (col : ℕ) → col < n + 1 → (tableau t).nonbasic col ≡ c → ((i : ℕ) → i < t.rated → (tableau t).cell i col ≤ℚ zero_ℚ) → ⊥
-      never col h e none =
-          let w = leaving_row n S.matrix S.right r S.first (map tableau o.earlier) (tableau t) c col S.copositive path ne (subst (λ k. col < k) columns_are h) e in
-          not_lt_of_le ((tableau t).cell w.0 col) zero_ℚ (none w.0 (subst (λ k. w.0 < k) (sym o.rated) w.1.within)) w.1.positive
+      pub walk_never : (t₁ : WholeTableau) (col : ℕ) → t₁ ≡ t → IsNonbasicColumn t c (Some col) → IsRatioRow t₁ col None → ⊥
+      walk_never t₁ col e h none =
+          let w = leaving_row n S.matrix S.right r S.first (map tableau o.earlier) (tableau t) c col S.copositive path ne h.0 h.1 in
+          not_lt_of_le ((tableau t).cell w.0 col) zero_ℚ (subst (λ m. IsRatioRow m col None) e none w.0 (subst (λ k. w.0 < k) (sym o.rated) w.1.within)) w.1.positive
 
-      pub walk_never : (t₁ : Numbers) (col : ℕ) (o : Option ℕ) → t₁ ≡ t → o ≡ None → col < n + 1 → (tableau t).nonbasic col ≡ c → IsBest t₁.rated t₁.rated t₁.starts (tableau t₁) col o → ⊥
-      walk_never t₁ col o e f h q B = never col h q (subst (λ m. IsBest m.rated m.rated m.starts (tableau m) col None) e (subst (λ p. IsBest t₁.rated t₁.rated t₁.starts (tableau t₁) col p) f B))
-
-      module _ (col row : ℕ) (h : col < n + 1) (e : (tableau t).nonbasic col ≡ c) (L : IsLexicographicRow n n w_of (tableau t) col row) (valid : IsTableau t) where
-        pub walk_next : (t' : Numbers) (c' later number : ℕ) → IsPivotOf t row col t' → All StepFits (steps_of_pivot t row col) → c' ≡ complement n ((tableau t).basic row) → later ≡ now + 1 → number ≡ pivot_number (suc (suc (length o.earlier))) → OnWalk n r m t' c' from later number
-        walk_next t' c' later number p f q g k =
+      module _ (col row : ℕ) (h : IsNonbasicColumn t c (Some col)) (L : IsLexicographicRow n n w_of (tableau t) col row) where
+        pub walk_next : (t' : WholeTableau) (c' later number : ℕ) → IsFittingPivot t row col t' → c' ≡ complement n ((tableau t).basic row) → later ≡ now + 1 → number ≡ pivot_number (suc (suc (length o.earlier))) → OnWalk n r m t' c' from later number
+        walk_next t' c' later number p q g k =
             record {
               earlier = t ∷ o.earlier;
-              path = (c, (tableau t).basic row, o.path, ne, record { valid = valid; replaces = record { col = col; row = row; col_in = subst (λ k. col < k) columns_are h; c_is = e; l_is = refl; chosen = L; to = p.fractions }; pivot = p; fits = f }, q);
+              path = (c, (tableau t).basic row, o.path, ne, record { replaces = record { col = col; row = row; col_in = h.0; c_is = h.1; l_is = refl; chosen = L; to = p.pivot.fractions }; fitting = p }, q);
               counts = let a : from + suc (length o.earlier) ≡ now = o.counts in omega (arith, a, g);
               number = k;
-              starts = p.starts ∙ o.starts;
-              rated = p.rated ∙ o.rated;
+              starts = p.pivot.starts ∙ o.starts;
+              rated = p.pivot.rated ∙ o.rated;
             }
 
         pub walk_stops : (number : ℕ) (u : Unfit) → number ≡ pivot_number (suc (suc (length o.earlier))) → IsFirstUnfit (steps_of_pivot t row col) u → EndsUnfit m n r (record { number = number; entering = c; unfit = u })
-        walk_stops number u k f = inr (o.earlier, t, record { path = o.path; goes_on = ne; valid = valid; col = col; row = row; col_in = subst (λ k. col < k) columns_are h; entering_is = e; chosen = L; unfit = f; number = k })
+        walk_stops number u k f = inr (o.earlier, t, record { path = o.path; goes_on = ne; col = col; row = row; col_in = h.0; entering_is = h.1; chosen = L; unfit = f; number = k })

@@ -14,8 +14,8 @@ use Rattle.lemke_pivot.specs.ProblemPaths.{IsLeastRow, IsFirstRow}
 use Rattle.lemke_pivot.proofs.CopositiveLemmas.{sides_copositive}
 use Rattle.lemke_pivot.proofs.SolutionLemmas.{solutions_have_plans}
 use Rattle.lemke_pivot.proofs.ProblemPathLemmas.{least_is_negative, solved}
-use Rattle.lex_tableau.specs.Rows.{Numbers, tableau, IsTableau}
-use Rattle.lex_tableau.specs.Starts.{Parts, system_of, IsStartOf}
+use Rattle.lex_tableau.specs.Rows.{WholeTableau, tableau, IsTableau}
+use Rattle.lex_tableau.specs.Starts.{LinearSystem, system_of, IsStartOf}
 use Rattle.sequence_data.specs.declared.types.SetRow.{SetRow}
 use Rattle.sequence_data.specs.Data.{SideData, side_of}
 use Rattle.lemke_pivot.specs.Parts.{Problem, size_of, problem_size, start_of, IsProblem, IsStartFor}
@@ -26,8 +26,8 @@ use Rattle.lemke_pivot.specs.SolutionLaws.{SolvesForm, SolutionsSolveTheForm, So
 use Rattle.lemke_pivot.proofs.KeptWalkLemmas.{path_of_numbers}
 
 -- ---- what is read off
-pub read_value : (m work : Numbers) (v w : ℕ) (q : ℚ) → m ≡ work → v ≡ w → q ≡ basic_solution (tableau m) v → q ≡ basic_solution (tableau work) w
-read_value m work v w q e f V = V ∙ ap₂ (λ (n : Numbers) (u : ℕ). basic_solution (tableau n) u) e f
+pub read_value : (m work : WholeTableau) (v w : ℕ) (q : ℚ) → m ≡ work → v ≡ w → q ≡ basic_solution (tableau m) v → q ≡ basic_solution (tableau work) w
+read_value m work v w q e f V = V ∙ ap₂ (λ (n : WholeTableau) (u : ℕ). basic_solution (tableau n) u) e f
 
 -- ---- a problem's path
 module _ (p : Problem) (P : IsProblem p) (r : ℕ) (L : IsLeastRow (size_of p) (tableau p.tableau).right r) where
@@ -85,7 +85,7 @@ pub solves_tables : SolutionsSolveTables
 solves_tables game m n f g k p s two alike P F S = solutions_on_tables game m n f g k _ _ _ _ _ _ two alike (solves_the_form f g k p s P F S)
 
 -- ---- the beginning
-pub starts_for : (first second : SideData) (s : Parts) (n : Numbers) → (one two : ℕ → ℕ → ℚ) × CostsAreNotNegative (costs_of (side_of first) (side_of second) one two) × IsSystemFor first second one two s → IsStartOf s n → IsTableau n → IsStartFor first second n
+pub starts_for : (first second : SideData) (s : LinearSystem) (n : WholeTableau) → (one two : ℕ → ℕ → ℚ) × CostsAreNotNegative (costs_of (side_of first) (side_of second) one two) × IsSystemFor first second one two s → IsStartOf s n → IsTableau n → IsStartFor first second n
 starts_for first second s n (one, two, costs, P) h valid =
     record {
       one = one;

@@ -3,7 +3,7 @@ use Rattle.std.proofs.Common.{◌≡◌, ◌∙◌, ◌<◌, sym}
 use Rattle.answers.specs.Answers.{◌>>◌, IsSingle, only, refused_by}
 use Rattle.answers.proofs.AnswerLemmas.{bind-single, only-single, refuse_where-single, refused_by-single}
 use Rattle.linear_systems.proofs.AgreementLemmas.{alike_sym, alike_trans}
-use Rattle.lex_tableau.specs.Starts.{Parts, system_of}
+use Rattle.lex_tableau.specs.Starts.{LinearSystem, system_of}
 use Rattle.lex_tableau.specs.StartStops.{start_of as start_of_system}
 use Rattle.lex_tableau.proofs.SystemLemmas.{systems_determined, start_of-single}
 use Rattle.frac128.proofs.FirstUnfitLemmas.{all_fit-single}
@@ -17,7 +17,7 @@ use Rattle.lemke_pivot.specs.Parts.{start_of}
 
 -- ---- the start
 module _ (f : FormData) where
-  one_system : (s t : Parts) → IsSystemOf f s → IsSystemOf f t → s ≡ t
+  one_system : (s t : LinearSystem) → IsSystemOf f s → IsSystemOf f t → s ≡ t
   one_system s t h g =
       let begin = start_of (side_of f.first) (side_of f.second) (costs (form f) 0 f.greatest_one) (costs (form f) 1 f.greatest_two) in
       systems_determined s t h.valid g.valid (alike_trans (system_of s) begin (system_of t) (alike_sym begin (system_of s) h.begins) g.begins) (h.rated ∙ sym g.rated)

@@ -10,14 +10,14 @@ use Rattle.sequence_forms.specs.Sides.{Side, sequences}
 use Rattle.lemke_pivot.specs.ProblemLaws.{CostsAreNotNegative}
 use Rattle.lemke_pivot.specs.ProblemPaths.{start, w_of, z_of}
 use Rattle.lemke_pivot.specs.Problems.{costs_of, matrix, right_sides, size}
-use Rattle.lex_tableau.specs.Rows.{Numbers, IsTableau, tableau}
+use Rattle.lex_tableau.specs.Rows.{WholeTableau, IsTableau, tableau}
 use Rattle.sequence_data.specs.Data.{SideData, IsSideData, side_of}
 
 -- both players' sides, and a tableau: of a problem the start, and of a solution the end of the path
 pub record Problem : Type 0 where
   pub first : SideData
   pub second : SideData
-  pub tableau : Numbers
+  pub tableau : WholeTableau
 
 -- how many rows the problem of two sides has
 abbrev pub problem_size : Side → Side → ℕ
@@ -47,7 +47,7 @@ plan_two p q = z_values p (sequences (side_of p.first) + q)
 
 -- ---- problems
 -- a tableau is the start of the problem of these sides, for some costs that are not negative
-pub record IsStartFor (first second : SideData) (n : Numbers) : Type 0 where
+pub record IsStartFor (first second : SideData) (n : WholeTableau) : Type 0 where
   pub one : ℕ → ℕ → ℚ
   pub two : ℕ → ℕ → ℚ
   pub costs : CostsAreNotNegative (costs_of (side_of first) (side_of second) one two)

@@ -1,56 +1,47 @@
 -- The path over whole numbers: each pivot's steps fit, and it ends where z0 is 0 or at the first
 -- step that does not fit.
-use Rattle.std.specs.Prelude.{ℕ, suc, ◌<◌, ◌≤◌, ◌≡◌, ◌≢◌, ◌⊎◌, List, [], ◌∷◌, length, get_or, All}
+use Rattle.std.specs.Prelude.{ℕ, suc, ◌<◌, ◌≤◌, ◌≡◌, ◌≢◌, ◌⊎◌, List, [], ◌∷◌, length, get_or}
 use Rattle.rational.specs.Rational.{ℚ, zero_ℚ}
 use Rattle.linear_systems.specs.Rows.{basic_solution, IsLexicographicRow, Alike}
 use Rattle.game_core.specs.Limits.{most_rows}
 use Rattle.lex_tableau.specs.declared.unfit_pivot.UnfitPivot.{UnfitPivot}
-use Rattle.lex_tableau.specs.Rows.{Numbers, tableau, IsTableau, IsPivotOf}
-use Rattle.frac128.specs.Steps.{StepFits, IsFirstUnfit}
-use Rattle.lex_tableau.specs.Pivots.{pivot_number, steps_of_pivot}
+use Rattle.lex_tableau.specs.Rows.{WholeTableau, tableau, IsTableau}
+use Rattle.frac128.specs.Steps.{IsFirstUnfit}
+use Rattle.lex_tableau.specs.Pivots.{IsFittingPivot, pivot_number, steps_of_pivot}
 use Rattle.lemke_pivot.specs.Problems.{IsCopositive}
 use Rattle.lemke_pivot.specs.ProblemPaths.{w_of, z_of, z0_of, complement, start, IsFirstRow, Replaces}
 
--- a tableau and its pivot, whose steps all fit
-pub record IsExactPivot (s : Numbers) (row col : ℕ) (t : Numbers) : Type 0 where
-  pub valid : IsTableau s
-  pub pivot : IsPivotOf s row col t
-  pub fits : All StepFits (steps_of_pivot s row col)
-
 -- c enters s on its lexicographic row and l leaves; the steps of the pivot fit, and t is what it
 -- makes
-pub record ReplacesExactly (n : ℕ) (s : Numbers) (c l : ℕ) (t : Numbers) : Type 0 where
-  pub valid : IsTableau s
+pub record ReplacesExactly (n : ℕ) (s : WholeTableau) (c l : ℕ) (t : WholeTableau) : Type 0 where
   pub replaces : Replaces n (tableau s) c l (tableau t)
-  pub pivot : IsPivotOf s replaces.row replaces.col t
-  pub fits : All StepFits (steps_of_pivot s replaces.row replaces.col)
+  pub fitting : IsFittingPivot s replaces.row replaces.col t
 
 -- The path from m has come to t, and c is next. The list has the tableaux after the first pivot and
 -- before t, the last one first. z0 enters at row r; as long as the value of z0 is not 0, the
 -- variable that is next enters, and the complement of the one that leaves is next.
-abbrev pub ExactPathTo : Numbers → ℕ → ℕ → List Numbers → Numbers → ℕ → Type 0
-ExactPathTo m n r [] t c = IsExactPivot m r n t × (c ≡ z_of n r)
+abbrev pub ExactPathTo : WholeTableau → ℕ → ℕ → List WholeTableau → WholeTableau → ℕ → Type 0
+ExactPathTo m n r [] t c = IsTableau m × IsFittingPivot m r n t × (c ≡ z_of n r)
 ExactPathTo m n r (s ∷ ss) t c = (d : ℕ) × (l : ℕ) × ExactPathTo m n r ss s d
     × (basic_solution (tableau s) (z0_of n) ≢ zero_ℚ) × ReplacesExactly n s d l t
     × (c ≡ complement n l)
 
 -- a path of k pivots, by the first of which z0 enters at row r, leads from m to t
-abbrev pub LeadsTo : Numbers → ℕ → ℕ → ℕ → Numbers → Type 0
+abbrev pub LeadsTo : WholeTableau → ℕ → ℕ → ℕ → WholeTableau → Type 0
 LeadsTo m n r k t =
-    (earlier : List Numbers) × (c : ℕ) × ExactPathTo m n r earlier t c × (k ≡ suc (length earlier))
+    (earlier : List WholeTableau) × (c : ℕ) × ExactPathTo m n r earlier t c × (k ≡ suc (length earlier))
 
 -- the path ends at t, where the value of z0 is 0
-abbrev pub EndsSolved : Numbers → ℕ → ℕ → Numbers → Type 0
+abbrev pub EndsSolved : WholeTableau → ℕ → ℕ → WholeTableau → Type 0
 EndsSolved m n r t =
-    (earlier : List Numbers) × (c : ℕ) × ExactPathTo m n r earlier t c
-    × (basic_solution (tableau t) (z0_of n) ≡ zero_ℚ) × IsTableau t
+    (earlier : List WholeTableau) × (c : ℕ) × ExactPathTo m n r earlier t c
+    × (basic_solution (tableau t) (z0_of n) ≡ zero_ℚ)
 
 -- the path has come to t, where the next pivot has a step that does not fit
-pub record StopsAt (m : Numbers) (n r : ℕ) (stop : UnfitPivot)
-    (earlier : List Numbers) (t : Numbers) : Type 0 where
+pub record StopsAt (m : WholeTableau) (n r : ℕ) (stop : UnfitPivot)
+    (earlier : List WholeTableau) (t : WholeTableau) : Type 0 where
   pub path : ExactPathTo m n r earlier t stop.entering
   pub goes_on : basic_solution (tableau t) (z0_of n) ≢ zero_ℚ
-  pub valid : IsTableau t
   pub col : ℕ
   pub row : ℕ
   pub col_in : col < (tableau t).width
@@ -61,14 +52,14 @@ pub record StopsAt (m : Numbers) (n r : ℕ) (stop : UnfitPivot)
 
 -- A step that does not fit ends the path: in the first pivot, by which z0 enters, or in a later
 -- one. Pivots count from 1.
-abbrev pub EndsUnfit : Numbers → ℕ → ℕ → UnfitPivot → Type 0
+abbrev pub EndsUnfit : WholeTableau → ℕ → ℕ → UnfitPivot → Type 0
 EndsUnfit m n r stop =
     ((stop.number ≡ 1) × (stop.entering ≡ z0_of n) × IsTableau m
     × IsFirstUnfit (steps_of_pivot m r n) stop.unfit)
-    ⊎ ((earlier : List Numbers) × (t : Numbers) × StopsAt m n r stop earlier t)
+    ⊎ ((earlier : List WholeTableau) × (t : WholeTableau) × StopsAt m n r stop earlier t)
 
 -- m is the start of a copositive problem with n rows, and z0 enters at row r
-pub record IsPathStart (n r : ℕ) (m : Numbers) : Type 0 where
+pub record IsPathStart (n r : ℕ) (m : WholeTableau) : Type 0 where
   pub few : n ≤ most_rows
   pub matrix : ℕ → ℕ → ℚ
   pub right : ℕ → ℚ
@@ -78,7 +69,3 @@ pub record IsPathStart (n r : ℕ) (m : Numbers) : Type 0 where
   pub starts : (i : ℕ) → i < n → get_or m.starts i 0 ≡ w_of i
   pub rated : m.rated ≡ n
   pub valid : IsTableau m
-
--- variable v is nonbasic in one of the first k columns
-abbrev pub IsNonbasic : Numbers → ℕ → ℕ → Type 0
-IsNonbasic m k v = (j : ℕ) × (j < k) × ((tableau m).nonbasic j ≡ v)

@@ -5,7 +5,7 @@ use Rattle.linear_systems.specs.Rows.{Alike}
 use Rattle.linear_systems.specs.Tableau.{Tableau}
 use Rattle.sequence_forms.specs.Sides.{sequences}
 use Rattle.lemke_pivot.specs.Problems.{Costs, costs_of}
-use Rattle.lex_tableau.specs.Starts.{Parts, IsSystem, system_of}
+use Rattle.lex_tableau.specs.Starts.{LinearSystem, IsSystem, system_of}
 use Rattle.sequence_data.specs.Data.{SideData, side_of}
 use Rattle.sequence_data.specs.Matrices.{number_at}
 use Rattle.lemke_pivot.specs.Parts.{problem_size, start_of}
@@ -23,7 +23,8 @@ listed_start first second one two =
     (number_at two (sequences (side_of second)))
 
 -- the system of the problem of these sides with these costs
-pub record IsSystemFor (first second : SideData) (one two : ℕ → ℕ → ℚ) (s : Parts) : Type 0 where
+pub record IsSystemFor (first second : SideData) (one two : ℕ → ℕ → ℚ)
+    (s : LinearSystem) : Type 0 where
   pub valid : IsSystem s
   pub begins : Alike (start_of (side_of first) (side_of second) one two) (system_of s)
   pub rated : s.rated ≡ problem_size (side_of first) (side_of second)

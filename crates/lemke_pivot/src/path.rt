@@ -1,12 +1,11 @@
 // The path over a tableau that is pivoted in place.
-ghost use Rattle.std.specs.Prelude.{ℕ, suc, ◌≡◌, ◌+◌, ◌^◌, ◌<◌, ◌≤◌, length, IfErr, OnOk};
+ghost use Rattle.std.specs.Prelude.{ℕ, suc, ◌≡◌, ◌+◌, ◌^◌, ◌<◌, ◌≤◌, IfErr, OnOk};
 ghost use Rattle.game_core.specs.Limits.{most_rows};
 ghost use Rattle.lex_tableau.specs.Pivots.{pivot_number};
-ghost use Rattle.lex_tableau.specs.Rows.{tableau};
 ghost use Rattle.lemke_pivot.specs.ProblemPaths.{complement};
-ghost use Rattle.lemke_pivot.specs.Paths.{EndsSolved, EndsUnfit, IsPathStart, IsNonbasic, LeadsTo};
+ghost use Rattle.lemke_pivot.specs.Paths.{EndsSolved, EndsUnfit, IsPathStart, LeadsTo};
 
-use lex_tableau::{PivotCount, Tableau, UnfitPivot, Work};
+use lex_tableau::{PivotCount, UnfitPivot, Work};
 use std::sync::ledger::Ledger;
 
 // The complement of a variable.
@@ -23,21 +22,6 @@ fn complement_of(size: usize, variable: u32) -> u32
     } else {
         variable
     }
-}
-
-// The column of a nonbasic variable.
-fn column_of(table: &Tableau, columns: usize, variable: u32) -> usize
-    requires columns { columns ≡ length table.now.nonbasics }
-    requires nonbasic { IsNonbasic table.now columns variable }
-    ensures within { result < columns }
-    ensures is { (tableau table.now).nonbasic result ≡ variable }
-{
-    for col in 0..columns {
-        if table.nonbasic(col) == variable {
-            return col;
-        }
-    }
-    unreachable!()
 }
 
 /// Walks to the end of the path on which z0 enters at this row.
@@ -74,7 +58,9 @@ pub(crate) fn walk<L: Ledger>(
         if work.now().value(z0).is_zero() {
             return Ok(());
         }
-        let col = column_of(work.now(), size + 1, entering);
+        let Some(col) = work.now().column_of(entering) else {
+            unreachable!()
+        };
         let Some(row) = work.now().ratio_row(col) else {
             unreachable!()
         };

@@ -7,21 +7,21 @@ use Rattle.linear_systems.specs.Rows.{Alike}
 use Rattle.linear_systems.specs.Reached.{IsStart}
 use Rattle.linear_systems.proofs.ReachedTableauLemmas.{reached_start, reached_alike}
 use Rattle.whole_rows.specs.Rows.{fraction, from_place, IsRow}
-use Rattle.lex_tableau.specs.Rows.{Numbers, tableau, IsTableau}
-use Rattle.lex_tableau.specs.Starts.{Parts, system_of, IsSystem, IsStartOf}
+use Rattle.lex_tableau.specs.Rows.{WholeTableau, tableau, IsTableau}
+use Rattle.lex_tableau.specs.Starts.{LinearSystem, system_of, IsSystem, IsStartOf}
 use Rattle.whole_rows.specs.StartRows.{cells_from, start_rows_fit, IsStartRow}
 use Rattle.lex_tableau.specs.StartStops.{rows_in, start_in}
 use Rattle.lex_tableau.specs.declared.tableau.StartStop.TheVariants.{Unfit, Memory}
 use Rattle.std.proofs.Math.Seq.{take-append_seam}
 
 -- ---- the whole start
-pub start_rows : (s : Parts) (xs : List ℤ) (count : ℕ) → count ≡ length s.nonbasics + 1 → ((i : ℕ) → i < length s.basics → IsStartRow count (cells_from s.cells (i * count)) (from_place xs (i * (count + 1)))) → (i : ℕ) → i < length s.basics → IsRow (length s.nonbasics + 2) (from_place xs (i * (length s.nonbasics + 2))) × ((k : ℕ) → k < length s.nonbasics + 1 → fraction (from_place xs (i * (length s.nonbasics + 2))) (k + 1) ≡ cells_from s.cells (i * (length s.nonbasics + 1)) k)
+pub start_rows : (s : LinearSystem) (xs : List ℤ) (count : ℕ) → count ≡ length s.nonbasics + 1 → ((i : ℕ) → i < length s.basics → IsStartRow count (cells_from s.cells (i * count)) (from_place xs (i * (count + 1)))) → (i : ℕ) → i < length s.basics → IsRow (length s.nonbasics + 2) (from_place xs (i * (length s.nonbasics + 2))) × ((k : ℕ) → k < length s.nonbasics + 1 → fraction (from_place xs (i * (length s.nonbasics + 2))) (k + 1) ≡ cells_from s.cells (i * (length s.nonbasics + 1)) k)
 start_rows s xs count e h i hi =
     let f : count + 1 ≡ length s.nonbasics + 2 = omega (arith, e) in
     (subst (λ z. IsRow z (from_place xs (i * z))) f (h i hi).is_row, λ k hk. ap (λ z. fraction (from_place xs (i * z)) (k + 1)) (sym f) ∙ (h i hi).same k (omega (arith, hk, e)) ∙ ap (λ z. cells_from s.cells (i * z) k) e)
 
-module _ (s : Parts) (xs : List ℤ) (t : IsSystem s) (shape : length xs ≡ length s.basics * (length s.nonbasics + 2)) (h : (i : ℕ) → i < length s.basics → IsRow (length s.nonbasics + 2) (from_place xs (i * (length s.nonbasics + 2))) × ((k : ℕ) → k < length s.nonbasics + 1 → fraction (from_place xs (i * (length s.nonbasics + 2))) (k + 1) ≡ cells_from s.cells (i * (length s.nonbasics + 1)) k)) where
-  abbrev pub started : Numbers
+module _ (s : LinearSystem) (xs : List ℤ) (t : IsSystem s) (shape : length xs ≡ length s.basics * (length s.nonbasics + 2)) (h : (i : ℕ) → i < length s.basics → IsRow (length s.nonbasics + 2) (from_place xs (i * (length s.nonbasics + 2))) × ((k : ℕ) → k < length s.nonbasics + 1 → fraction (from_place xs (i * (length s.nonbasics + 2))) (k + 1) ≡ cells_from s.cells (i * (length s.nonbasics + 1)) k)) where
+  abbrev pub started : WholeTableau
   started = record { starts = s.basics; basics = s.basics; nonbasics = s.nonbasics; rated = s.rated; numbers = xs }
 
   pub start_alike : Alike (system_of s) (tableau started)
@@ -44,7 +44,7 @@ module _ (s : Parts) (xs : List ℤ) (t : IsSystem s) (shape : length xs ≡ len
   start_is = record { fractions = start_alike; starts = refl; rated = refl }
 
 -- the start, as the code copies its lists
-pub start_copied : (P : Numbers → Type 0) (s : Parts) (xs ys : List ℤ) (a b c : List ℕ) → a ≡ s.basics → b ≡ s.basics → c ≡ s.nonbasics → ys ≡ xs → P (record { starts = s.basics; basics = s.basics; nonbasics = s.nonbasics; rated = s.rated; numbers = xs }) → P (record { starts = a; basics = b; nonbasics = c; rated = s.rated; numbers = ys })
+pub start_copied : (P : WholeTableau → Type 0) (s : LinearSystem) (xs ys : List ℤ) (a b c : List ℕ) → a ≡ s.basics → b ≡ s.basics → c ≡ s.nonbasics → ys ≡ xs → P (record { starts = s.basics; basics = s.basics; nonbasics = s.nonbasics; rated = s.rated; numbers = xs }) → P (record { starts = a; basics = b; nonbasics = c; rated = s.rated; numbers = ys })
 start_copied P s xs ys a b c ea eb ec ex h =
     subst (λ a. P (record { starts = a; basics = b; nonbasics = c; rated = s.rated; numbers = ys })) (sym ea)
     (subst (λ b. P (record { starts = s.basics; basics = b; nonbasics = c; rated = s.rated; numbers = ys })) (sym eb)
@@ -62,13 +62,13 @@ take_all xs ys n e = ap (λ n. take n (xs ++ ys)) (sym e) ∙ take-append_seam x
 
 -- ---- the stages
 -- the rows are those of the system
-pub rows_read : (s : Parts) (rows count : ℕ) (cells : List ℚ) (answer : Result (Unit {0}) (ℕ × Step)) → rows ≡ length s.basics → count ≡ length s.nonbasics → cells ≡ s.cells → start_rows_fit rows (count + 1) cells answer → start_rows_fit (length s.basics) (length s.nonbasics + 1) s.cells answer
+pub rows_read : (s : LinearSystem) (rows count : ℕ) (cells : List ℚ) (answer : Result (Unit {0}) (ℕ × Step)) → rows ≡ length s.basics → count ≡ length s.nonbasics → cells ≡ s.cells → start_rows_fit rows (count + 1) cells answer → start_rows_fit (length s.basics) (length s.nonbasics + 1) s.cells answer
 rows_read s rows count cells answer e f g h =
     subst (λ r. start_rows_fit r (length s.nonbasics + 1) s.cells answer) e
     (subst (λ n. start_rows_fit rows (n + 1) s.cells answer) f (subst (λ xs. start_rows_fit rows (count + 1) xs answer) g h))
 
-pub start_given : (s t : Parts) (n : Numbers) → s ≡ t → start_rows_fit (length s.basics) (length s.nonbasics + 1) s.cells (Ok tt) → IsStartOf s n → IsTableau n → start_in t (Ok n)
+pub start_given : (s t : LinearSystem) (n : WholeTableau) → s ≡ t → start_rows_fit (length s.basics) (length s.nonbasics + 1) s.cells (Ok tt) → IsStartOf s n → IsTableau n → start_in t (Ok n)
 start_given s t n e h start valid = subst (λ t. start_in t (Ok n)) e (tt, h, record { start = start; valid = valid })
 
-pub start_stopped : (s t : Parts) (row : ℕ) (step : Step) → s ≡ t → start_rows_fit (length s.basics) (length s.nonbasics + 1) s.cells (Err (row, step)) → Gives Memory (start_in t) (Err (Unfit row step))
+pub start_stopped : (s t : LinearSystem) (row : ℕ) (step : Step) → s ≡ t → start_rows_fit (length s.basics) (length s.nonbasics + 1) s.cells (Err (row, step)) → Gives Memory (start_in t) (Err (Unfit row step))
 start_stopped s t row step e h = inr (inl (subst (λ t. rows_in t (Err (Unfit row step))) e ((row, step), h, refl)))

@@ -1,5 +1,5 @@
 -- A system is determined by its fractions, and has one start.
-use Rattle.std.proofs.Common.{ℕ, Err, ◌≡◌, ◌<◌, ◌+◌, ◌*◌, ◌/◌, ◌%◌, inl, inr, ◌≤◌, length, get_or, sym, ap, ap₂, ◌∙◌, subst, arith, div-add-mod', eq-or-lt_of_le}
+use Rattle.std.proofs.Common.{ℕ, ◌≡◌, ◌<◌, ◌+◌, ◌*◌, ◌/◌, ◌%◌, inl, inr, ◌≤◌, length, get_or, sym, ap, ap₂, ◌∙◌, subst, arith, div-add-mod', eq-or-lt_of_le}
 use Rattle.std.specs.List.{range_with_len}
 use Rattle.std.proofs.lemmas.Grind.{same_number_lists}
 use Rattle.std.proofs.lemmas.List.{ext_get_or}
@@ -8,17 +8,17 @@ use Rattle.answers.specs.Answers.{such_that, IsSingle}
 use Rattle.answers.proofs.AnswerLemmas.{bind-single, refused_by-single, such_that-single}
 use Rattle.rational.specs.Rational.{zero_ℚ}
 use Rattle.linear_systems.specs.Rows.{Alike}
-use Rattle.lex_tableau.specs.Rows.{Numbers, tableau, IsTableau}
-use Rattle.lex_tableau.specs.Starts.{Parts, system_of, IsSystem, IsStartOf, cells_from, start_steps, start_rows_fit}
+use Rattle.lex_tableau.specs.Rows.{WholeTableau, tableau, IsTableau}
+use Rattle.lex_tableau.specs.Starts.{LinearSystem, system_of, IsSystem, IsStartOf, cells_from, start_steps, start_rows_fit}
 use Rattle.lex_tableau.specs.StartStops.{rows_in, start_in, start_of, IsStarted}
-use Rattle.lex_tableau.specs.declared.tableau.StartStop.TheVariants.{Unfit, Memory}
+use Rattle.lex_tableau.specs.declared.tableau.StartStop.TheVariants.{Unfit}
 use Rattle.frac128.proofs.FirstUnfitLemmas.{all_fit-single}
 use Rattle.lex_tableau.proofs.TableauLemmas.{alike_both, determined}
 
-parts_same : (a b : Parts) → a.basics ≡ b.basics → a.nonbasics ≡ b.nonbasics → a.cells ≡ b.cells → a.rated ≡ b.rated → a ≡ b
+parts_same : (a b : LinearSystem) → a.basics ≡ b.basics → a.nonbasics ≡ b.nonbasics → a.cells ≡ b.cells → a.rated ≡ b.rated → a ≡ b
 parts_same a b p q r s = λ i. record { basics = p i; nonbasics = q i; cells = r i; rated = s i }
 
-module _ (a b : Parts) (l : Alike (system_of a) (system_of b)) where
+module _ (a b : LinearSystem) (l : Alike (system_of a) (system_of b)) where
   width : length a.nonbasics ≡ length b.nonbasics
   width = l.width
 
@@ -30,7 +30,7 @@ module _ (a b : Parts) (l : Alike (system_of a) (system_of b)) where
     | inr m ↦ (l.cell i p hi m ∙ ap (λ w. cells_from b.cells (i * (w + 1)) p) (sym width))
   ]
 
-pub systems_determined : (a b : Parts) → IsSystem a → IsSystem b → Alike (system_of a) (system_of b) → a.rated ≡ b.rated → a ≡ b
+pub systems_determined : (a b : LinearSystem) → IsSystem a → IsSystem b → Alike (system_of a) (system_of b) → a.rated ≡ b.rated → a ≡ b
 systems_determined a b ha hb l r = parts_same a b basics nonbasics (ext_get_or zero_ℚ a.cells b.cells lengths at) r
   where
     basics : a.basics ≡ b.basics
@@ -50,23 +50,18 @@ systems_determined a b ha hb l r = parts_same a b basics nonbasics (ext_get_or z
         subst (λ n. get_or a.cells n zero_ℚ ≡ get_or b.cells n zero_ℚ) (div-add-mod' k size)
         (row_cells a b l (k / size) (k % size) ((div-lt_iff_lt-mul {k = size} (omega arith)).1 (subst (λ n. k < n) ha.shape h)) (mod-lt k {m = size} (omega arith)))
 
-pub starts_same : (s : Parts) (m n : Numbers) → IsTableau m → IsTableau n → IsStartOf s m → IsStartOf s n → m ≡ n
+pub starts_same : (s : LinearSystem) (m n : WholeTableau) → IsTableau m → IsTableau n → IsStartOf s m → IsStartOf s n → m ≡ n
 starts_same s m n hm hn p q =
     determined m n hm hn (p.starts ∙ sym q.starts) (p.rated ∙ sym q.rated) (alike_both (system_of s) (tableau m) (tableau n) p.fractions q.fractions)
 
 -- a system has one start, or one step that is the first that does not fit
-pub start_in-single : (s : Parts) → IsSingle (start_in s)
+pub start_in-single : (s : LinearSystem) → IsSingle (start_in s)
 start_in-single s =
     bind-single (rows_in s) (λ _. such_that (IsStarted s))
     (refused_by-single (λ stop. Unfit stop.0 stop.1) (start_rows_fit (length s.basics) (length s.nonbasics + 1) s.cells) (all_fit-single (start_steps (length s.nonbasics + 1) s.cells) (range_with_len 0 (length s.basics))))
     (λ _ _. such_that-single (IsStarted s) (λ m n h g. starts_same s m n h.valid g.valid h.start g.start))
 
--- want of memory is no reason why a system has no start
-pub start_not_memory : (s : Parts) → start_in s (Err Memory) → ⊥
-start_not_memory s (inl (_, _, e)) = cc
-start_not_memory s (inr (_, _, h)) = h
-
 -- the one system that is described has one start
-pub start_of-single : (Describes : Parts → Type 0) → ((s t : Parts) → Describes s → Describes t → s ≡ t) → IsSingle (start_of Describes)
+pub start_of-single : (Describes : LinearSystem → Type 0) → ((s t : LinearSystem) → Describes s → Describes t → s ≡ t) → IsSingle (start_of Describes)
 start_of-single Describes same one other h g =
     start_in-single g.0 one other (subst (λ s. start_in s one) (same h.0 g.0 h.1.0 g.1.0) h.1.1) g.1.1

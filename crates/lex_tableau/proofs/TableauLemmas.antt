@@ -3,11 +3,11 @@ use Rattle.std.proofs.Common.{ℕ, ℤ, pos, suc, zero, ◌≡◌, ◌<◌, ◌+
 use Rattle.std.proofs.lemmas.Grind.{same_number_lists}
 use Rattle.std.proofs.lemmas.List.{same_lists, get_or_default}
 use native.Mathlib.Nat.{div-lt_iff_lt-mul, mod-lt}
-use Rattle.linear_systems.specs.Tableau.{Tableau}
+use Rattle.linear_systems.specs.Tableau.{Tableau, pivot}
 use Rattle.linear_systems.specs.Rows.{basic_solution, Alike}
 use Rattle.linear_systems.proofs.SolutionLemmas.{solution_basic}
 use Rattle.whole_rows.specs.Rows.{from_place, fraction, IsRow}
-use Rattle.lex_tableau.specs.Rows.{Numbers, tableau, IsTableau}
+use Rattle.lex_tableau.specs.Rows.{WholeTableau, tableau, IsTableau, IsPivotOf}
 use Rattle.whole_rows.proofs.DeterminedRowLemmas.{rows_determined}
 
 pub alike_both : (t a b : Tableau) → Alike t a → Alike t b → Alike a b
@@ -23,14 +23,14 @@ alike_both t a b p q =
       right = λ i h. sym (p.right i (omega arith)) ∙ q.right i (omega arith);
     }
 
-numbers_same : (a b : Numbers) → a.starts ≡ b.starts → a.basics ≡ b.basics → a.nonbasics ≡ b.nonbasics → a.rated ≡ b.rated → a.numbers ≡ b.numbers → a ≡ b
+numbers_same : (a b : WholeTableau) → a.starts ≡ b.starts → a.basics ≡ b.basics → a.nonbasics ≡ b.nonbasics → a.rated ≡ b.rated → a.numbers ≡ b.numbers → a ≡ b
 numbers_same a b p q r s t =
     ap₂ (λ x y. record { starts = x; basics = y; nonbasics = a.nonbasics; rated = a.rated; numbers = a.numbers }) p q
     ∙ ap₂ (λ x y. record { starts = b.starts; basics = b.basics; nonbasics = x; rated = y; numbers = a.numbers }) r s
     ∙ ap (λ x. record { starts = b.starts; basics = b.basics; nonbasics = b.nonbasics; rated = b.rated; numbers = x }) t
 
 -- row by row
-row_numbers : (a b : Numbers) → IsTableau a → IsTableau b → Alike (tableau a) (tableau b) → (i p : ℕ) → i < length a.basics → p < length a.nonbasics + 2 → from_place a.numbers (i * (length a.nonbasics + 2)) p ≡ from_place b.numbers (i * (length a.nonbasics + 2)) p
+row_numbers : (a b : WholeTableau) → IsTableau a → IsTableau b → Alike (tableau a) (tableau b) → (i p : ℕ) → i < length a.basics → p < length a.nonbasics + 2 → from_place a.numbers (i * (length a.nonbasics + 2)) p ≡ from_place b.numbers (i * (length a.nonbasics + 2)) p
 row_numbers a b ha hb l i p hi hp = rows_determined (length a.nonbasics + 2) row_a row_b (omega arith) (ha.rows i hi) is_row fractions p hp
   where
     row_a : ℕ → ℤ
@@ -61,7 +61,7 @@ row_numbers a b ha hb l i p hi hp = rows_determined (length a.nonbasics + 2) row
         cases : (q : ℕ) → suc q < length a.nonbasics + 2 → (q ≡ length a.nonbasics) ⊎ (q < length a.nonbasics)
         cases q k = eq-or-lt_of_le (omega arith)
 
-pub determined : (a b : Numbers) → IsTableau a → IsTableau b → a.starts ≡ b.starts → a.rated ≡ b.rated → Alike (tableau a) (tableau b) → a ≡ b
+pub determined : (a b : WholeTableau) → IsTableau a → IsTableau b → a.starts ≡ b.starts → a.rated ≡ b.rated → Alike (tableau a) (tableau b) → a ≡ b
 determined a b ha hb s r l = numbers_same a b s basics nonbasics r numbers
   where
     basics : a.basics ≡ b.basics
@@ -84,6 +84,11 @@ determined a b ha hb s r l = numbers_same a b s basics nonbasics r numbers
     numbers : a.numbers ≡ b.numbers
     numbers = same_lists a.numbers b.numbers lengths (λ k d h. get_or_default a.numbers k d (pos 0) h ∙ at k h ∙ get_or_default b.numbers k (pos 0) d (let e : length a.numbers ≡ length b.numbers = lengths in omega arith))
 
+-- a pivot makes one tableau
+pub pivot_once : (n a b : WholeTableau) (row col : ℕ) → IsTableau a → IsTableau b → IsPivotOf n row col a → IsPivotOf n row col b → a ≡ b
+pivot_once n a b row col ha hb p q =
+    determined a b ha hb (p.starts ∙ sym q.starts) (p.rated ∙ sym q.rated) (alike_both (pivot (tableau n) row col) (tableau a) (tableau b) p.fractions q.fractions)
+
 -- ---- the value of a variable
-pub value_found : (n : Numbers) (i v : ℕ) → IsTableau n → i < length n.basics → get_or n.basics i 0 ≡ v → (tableau n).right i ≡ basic_solution (tableau n) v
+pub value_found : (n : WholeTableau) (i v : ℕ) → IsTableau n → i < length n.basics → get_or n.basics i 0 ≡ v → (tableau n).right i ≡ basic_solution (tableau n) v
 value_found n i v t h e = sym (solution_basic (tableau n) i t.reached.reached.proper h) ∙ ap (basic_solution (tableau n)) e

@@ -18,13 +18,13 @@ use Rattle.linear_systems.proofs.PivotLemmas.{eqb_same, eqb_apart, pivot_solves}
 use Rattle.lex_tableau.specs.Ratio.{variable_at, KeepsPositiveKeys}
 use Rattle.linear_systems.proofs.ReachedTableauLemmas.{reached_pivot, reached_alike}
 use Rattle.whole_rows.specs.Rows.{from_place, fraction, IsRow}
-use Rattle.lex_tableau.specs.Rows.{Numbers, HasSolutionsOf, numbers_of, row_of, tableau, IsTableau, IsPivotOf, with_variables_exchanged}
+use Rattle.lex_tableau.specs.Rows.{WholeTableau, HasSolutionsOf, numbers_of, row_of, tableau, IsTableau, IsPivotOf, with_variables_exchanged}
 use Rattle.lex_tableau.specs.Pivots.{HasPivotRow, HasOtherRows}
 use Rattle.whole_rows.specs.PivotedRows.{IsPivotedRow, IsPivotRow}
 use Rattle.whole_rows.proofs.RowValueLemmas.{fraction_over}
 
 -- ---- each number of the list stands in a row
-pub numbers_fit : (n : Numbers) → IsTableau n → (k : ℕ) → PartFits (get_or n.numbers k (pos 0))
+pub numbers_fit : (n : WholeTableau) → IsTableau n → (k : ℕ) → PartFits (get_or n.numbers k (pos 0))
 numbers_fit n t k = elim (cases_lt k (length n.numbers)) [ inl l ↦ inside l | inr g ↦ subst PartFits (sym (get_or_beyond n.numbers k (pos 0) g)) zero_fits ]
   where
     size : ℕ
@@ -77,8 +77,8 @@ module _ (t : Tableau) (r c : ℕ) where
   nonbasic_other j n = rw (eqb_apart j c n) refl
 
 -- ---- the pivot of a tableau
-module _ (n : Numbers) (r c : ℕ) (xs : List ℤ) (t : IsTableau n) (hr : r < n.rated) (hc : c < length n.nonbasics) (ne : (tableau n).cell r c ≢ zero_ℚ) (shape : length xs ≡ length n.numbers) (own : IsPivotRow (length n.nonbasics + 2) (row_of n r) (c + 1) (from_place xs (r * (length n.nonbasics + 2)))) (others : (i : ℕ) → i < length n.basics → i ≢ r → IsPivotedRow (length n.nonbasics + 2) (row_of n i) (row_of n r) (c + 1) (from_place xs (i * (length n.nonbasics + 2)))) where
-  abbrev new : Numbers
+module _ (n : WholeTableau) (r c : ℕ) (xs : List ℤ) (t : IsTableau n) (hr : r < n.rated) (hc : c < length n.nonbasics) (ne : (tableau n).cell r c ≢ zero_ℚ) (shape : length xs ≡ length n.numbers) (own : IsPivotRow (length n.nonbasics + 2) (row_of n r) (c + 1) (from_place xs (r * (length n.nonbasics + 2)))) (others : (i : ℕ) → i < length n.basics → i ≢ r → IsPivotedRow (length n.nonbasics + 2) (row_of n i) (row_of n r) (c + 1) (from_place xs (i * (length n.nonbasics + 2)))) where
+  abbrev new : WholeTableau
   new = with_variables_exchanged n r c xs
 
   rows_same : length new.basics ≡ length n.basics
@@ -143,40 +143,40 @@ module _ (n : Numbers) (r c : ℕ) (xs : List ℤ) (t : IsTableau n) (hr : r < n
   pub is_pivot : IsPivotOf n r c new
   is_pivot = record { fractions = pivot_alike; starts = refl; rated = refl }
 
-pub entry_ne : (n : Numbers) (r c : ℕ) → IsTableau n → r < length n.basics → (tableau n).cell r c ≢ zero_ℚ → row_of n r (c + 1) ≢ pos 0
+pub entry_ne : (n : WholeTableau) (r c : ℕ) → IsTableau n → r < length n.basics → (tableau n).cell r c ≢ zero_ℚ → row_of n r (c + 1) ≢ pos 0
 entry_ne n r c t hr ne e = ne (fraction_over (row_of n r) (c + 1) (t.rows r hr).positive ∙ ap (λ z. whole z *ℚ inv_ℚ (whole (row_of n r 0))) e ∙ ring rational_ring (inv_ℚ (whole (row_of n r 0)) ∷ []) (num 0 :* R.A) (num 0) refl)
 
 -- ---- what the code reads of a tableau
 -- the pivot's rows, where the code reads the numbers and their counts elsewhere
-pub entry_read : (n : Numbers) (r c : ℕ) (xs : List ℤ) (w : ℕ) → IsTableau n → r < length n.basics → (tableau n).cell r c ≢ zero_ℚ → xs ≡ n.numbers → w ≡ length n.nonbasics → from_place xs (r * (w + 2)) (c + 1) ≢ pos 0
+pub entry_read : (n : WholeTableau) (r c : ℕ) (xs : List ℤ) (w : ℕ) → IsTableau n → r < length n.basics → (tableau n).cell r c ≢ zero_ℚ → xs ≡ n.numbers → w ≡ length n.nonbasics → from_place xs (r * (w + 2)) (c + 1) ≢ pos 0
 entry_read n r c xs w t h ne e f = subst (λ w. from_place xs (r * (w + 2)) (c + 1) ≢ pos 0) (sym f) (subst (λ xs. from_place xs (r * (length n.nonbasics + 2)) (c + 1) ≢ pos 0) (sym e) (entry_ne n r c t h ne))
 
-pub numbers_fit_read : (n : Numbers) (xs : List ℤ) → IsTableau n → xs ≡ n.numbers → (k : ℕ) → PartFits (get_or xs k (pos 0))
+pub numbers_fit_read : (n : WholeTableau) (xs : List ℤ) → IsTableau n → xs ≡ n.numbers → (k : ℕ) → PartFits (get_or xs k (pos 0))
 numbers_fit_read n xs t e k = subst (λ xs. PartFits (get_or xs k (pos 0))) (sym e) (numbers_fit n t k)
 
-pub row_told : {E : Type 0} (n : Numbers) (r c : ℕ) (xs ys : List ℤ) (w : ℕ) (o : Result (Unit {0}) E) → xs ≡ n.numbers → w ≡ length n.nonbasics → OnOk o (IsPivotRow (w + 2) (from_place xs (r * (w + 2))) (c + 1) (from_place ys (r * (w + 2)))) → OnOk o (IsPivotRow (length n.nonbasics + 2) (row_of n r) (c + 1) (from_place ys (r * (length n.nonbasics + 2))))
+pub row_told : {E : Type 0} (n : WholeTableau) (r c : ℕ) (xs ys : List ℤ) (w : ℕ) (o : Result (Unit {0}) E) → xs ≡ n.numbers → w ≡ length n.nonbasics → OnOk o (IsPivotRow (w + 2) (from_place xs (r * (w + 2))) (c + 1) (from_place ys (r * (w + 2)))) → OnOk o (IsPivotRow (length n.nonbasics + 2) (row_of n r) (c + 1) (from_place ys (r * (length n.nonbasics + 2))))
 row_told n r c xs ys w o e f h = subst (λ w. OnOk o (IsPivotRow (w + 2) (from_place n.numbers (r * (w + 2))) (c + 1) (from_place ys (r * (w + 2))))) f (subst (λ xs. OnOk o (IsPivotRow (w + 2) (from_place xs (r * (w + 2))) (c + 1) (from_place ys (r * (w + 2))))) e h)
 
-pub others_told : {E : Type 0} (n : Numbers) (r c : ℕ) (xs ys : List ℤ) (m w : ℕ) (o : Result (Unit {0}) E) → xs ≡ n.numbers → m ≡ length n.basics → w ≡ length n.nonbasics → OnOk o ((i : ℕ) → i < m → i ≢ r → IsPivotedRow (w + 2) (from_place xs (i * (w + 2))) (from_place xs (r * (w + 2))) (c + 1) (from_place ys (i * (w + 2)))) → OnOk o ((i : ℕ) → i < length n.basics → i ≢ r → IsPivotedRow (length n.nonbasics + 2) (row_of n i) (row_of n r) (c + 1) (from_place ys (i * (length n.nonbasics + 2))))
+pub others_told : {E : Type 0} (n : WholeTableau) (r c : ℕ) (xs ys : List ℤ) (m w : ℕ) (o : Result (Unit {0}) E) → xs ≡ n.numbers → m ≡ length n.basics → w ≡ length n.nonbasics → OnOk o ((i : ℕ) → i < m → i ≢ r → IsPivotedRow (w + 2) (from_place xs (i * (w + 2))) (from_place xs (r * (w + 2))) (c + 1) (from_place ys (i * (w + 2)))) → OnOk o ((i : ℕ) → i < length n.basics → i ≢ r → IsPivotedRow (length n.nonbasics + 2) (row_of n i) (row_of n r) (c + 1) (from_place ys (i * (length n.nonbasics + 2))))
 others_told n r c xs ys m w o e g f h =
     subst (λ w. OnOk o ((i : ℕ) → i < length n.basics → i ≢ r → IsPivotedRow (w + 2) (from_place n.numbers (i * (w + 2))) (from_place n.numbers (r * (w + 2))) (c + 1) (from_place ys (i * (w + 2))))) f
     (subst (λ m. OnOk o ((i : ℕ) → i < m → i ≢ r → IsPivotedRow (w + 2) (from_place n.numbers (i * (w + 2))) (from_place n.numbers (r * (w + 2))) (c + 1) (from_place ys (i * (w + 2))))) g
     (subst (λ xs. OnOk o ((i : ℕ) → i < m → i ≢ r → IsPivotedRow (w + 2) (from_place xs (i * (w + 2))) (from_place xs (r * (w + 2))) (c + 1) (from_place ys (i * (w + 2))))) e h))
 
 -- the exchanged variables and the taken numbers, as the code writes them
-pub exchanged_read : (P : Numbers → Type 0) (n : Numbers) (r c e l : ℕ) (xs ys : List ℤ) → r < length n.basics → c < length n.nonbasics → e ≡ get_or n.nonbasics c e → l ≡ get_or n.basics r l → ys ≡ xs → P (with_variables_exchanged n r c xs) → P (record { starts = n.starts; basics = slice_set n.basics r e; nonbasics = slice_set n.nonbasics c l; rated = n.rated; numbers = ys })
+pub exchanged_read : (P : WholeTableau → Type 0) (n : WholeTableau) (r c e l : ℕ) (xs ys : List ℤ) → r < length n.basics → c < length n.nonbasics → e ≡ get_or n.nonbasics c e → l ≡ get_or n.basics r l → ys ≡ xs → P (with_variables_exchanged n r c xs) → P (record { starts = n.starts; basics = slice_set n.basics r e; nonbasics = slice_set n.nonbasics c l; rated = n.rated; numbers = ys })
 exchanged_read P n r c e l xs ys hr hc he hl hy h =
     subst (λ e. P (record { starts = n.starts; basics = slice_set n.basics r e; nonbasics = slice_set n.nonbasics c l; rated = n.rated; numbers = ys })) (sym (he ∙ get_or_default n.nonbasics c e 0 hc))
     (subst (λ l. P (record { starts = n.starts; basics = slice_set n.basics r (get_or n.nonbasics c 0); nonbasics = slice_set n.nonbasics c l; rated = n.rated; numbers = ys })) (sym (hl ∙ get_or_default n.basics r l 0 hr))
     (subst (λ ys. P (record { starts = n.starts; basics = slice_set n.basics r (get_or n.nonbasics c 0); nonbasics = slice_set n.nonbasics c (get_or n.basics r 0); rated = n.rated; numbers = ys })) (sym hy) h))
 
-pub rated_in : (n : Numbers) (r : ℕ) → IsTableau n → r < n.rated → r < length n.basics
+pub rated_in : (n : WholeTableau) (r : ℕ) → IsTableau n → r < n.rated → r < length n.basics
 rated_in n r t h = let k : n.rated ≤ length n.basics = t.rated in omega arith
 
 -- the pivot, as the code copies the variables and exchanges two of them
-pub copied_pivot : (m : Numbers) (r c e l : ℕ) (ss bs ns : List ℕ) (k : ℕ) (xs : List ℤ) → IsTableau m → ss ≡ m.starts → bs ≡ m.basics → ns ≡ m.nonbasics → k ≡ m.rated → r < m.rated → c < length m.nonbasics → (tableau m).cell r c ≢ zero_ℚ → length xs ≡ length m.numbers → HasPivotRow m r c xs → HasOtherRows m r c xs → e ≡ get_or ns c e → l ≡ get_or bs r l → IsTableau (numbers_of ss (slice_set bs r e) (slice_set ns c l) k xs) × IsPivotOf m r c (numbers_of ss (slice_set bs r e) (slice_set ns c l) k xs)
+pub copied_pivot : (m : WholeTableau) (r c e l : ℕ) (ss bs ns : List ℕ) (k : ℕ) (xs : List ℤ) → IsTableau m → ss ≡ m.starts → bs ≡ m.basics → ns ≡ m.nonbasics → k ≡ m.rated → r < m.rated → c < length m.nonbasics → (tableau m).cell r c ≢ zero_ℚ → length xs ≡ length m.numbers → HasPivotRow m r c xs → HasOtherRows m r c xs → e ≡ get_or ns c e → l ≡ get_or bs r l → IsTableau (numbers_of ss (slice_set bs r e) (slice_set ns c l) k xs) × IsPivotOf m r c (numbers_of ss (slice_set bs r e) (slice_set ns c l) k xs)
 copied_pivot m r c e l ss bs ns k xs t hs hb hn hk hr hc ne sh own others he hl =
-    subst (λ (n : Numbers). IsTableau n × IsPivotOf m r c n) (sym same) (pivot_is_tableau m r c xs t hr hc ne sh own others, is_pivot m r c xs t hr hc ne sh own others)
+    subst (λ (n : WholeTableau). IsTableau n × IsPivotOf m r c n) (sym same) (pivot_is_tableau m r c xs t hr hc ne sh own others, is_pivot m r c xs t hr hc ne sh own others)
   where
     entered : e ≡ get_or m.nonbasics c 0
     entered = he ∙ ap (λ ns. get_or ns c e) hn ∙ get_or_default m.nonbasics c e 0 hc
@@ -190,10 +190,10 @@ copied_pivot m r c e l ss bs ns k xs t hs hb hn hk hr hc ne sh own others he hl 
         ∙ ap₂ (λ x y. numbers_of m.starts (slice_set m.basics r (get_or m.nonbasics c 0)) x y xs) (ap₂ (λ x y. slice_set x c y) hn left) hk
 
 -- a pivot keeps the solutions
-pub solutions_kept : (n m : Numbers) (r c : ℕ) → IsTableau n → r < n.rated → c < length n.nonbasics → (tableau n).cell r c ≢ zero_ℚ → IsPivotOf n r c m → HasSolutionsOf n m
+pub solutions_kept : (n m : WholeTableau) (r c : ℕ) → IsTableau n → r < n.rated → c < length n.nonbasics → (tableau n).cell r c ≢ zero_ℚ → IsPivotOf n r c m → HasSolutionsOf n m
 solutions_kept n m r c t hr hc ne p x = pivot_solves (tableau n) (tableau m) x r c (rated_in n r t hr) hc ne p.fractions
 
 -- and on the lexicographic row the keys
-pub keys_kept : (n m : Numbers) (r c : ℕ) → IsTableau n → c < length n.nonbasics → IsPivotOf n r c m → KeepsPositiveKeys n r c m
+pub keys_kept : (n m : WholeTableau) (r c : ℕ) → IsTableau n → c < length n.nonbasics → IsPivotOf n r c m → KeepsPositiveKeys n r c m
 keys_kept n m r c t hc p best keys =
     subst₂ (λ (ss : List ℕ) (k : ℕ). (i : ℕ) → i < k → IsLexPositive (suc k) (key (variable_at ss) (tableau m) i)) (sym p.starts) (sym p.rated) (keys_stay_alike n.rated (variable_at n.starts) (tableau n) (tableau m) c r t.rated hc best p.fractions keys)

@@ -6,7 +6,7 @@ use Rattle.rational.specs.Rational.{ℚ, frac, ◌*ℚ◌, inv_ℚ, zero_ℚ, �
 use Rattle.linear_systems.specs.Tableau.{Tableau}
 use Rattle.linear_systems.specs.Lex.{IsLexLess, IsLexPositive}
 use Rattle.linear_systems.specs.Rows.{key, HasDistinctVariables, IsLexicographicRow}
-use Rattle.lex_tableau.specs.Rows.{Numbers, tableau, tableau_of, IsReachedFrom}
+use Rattle.lex_tableau.specs.Rows.{WholeTableau, tableau, tableau_of, IsReachedFrom}
 use Rattle.whole_rows.specs.Lists.{row_at}
 
 -- the variables of a list, one after the other
@@ -36,22 +36,22 @@ IsBest k m starts t c o =
     (λ r. IsLexicographicRow k m (variable_at starts) t c r)
 
 -- the rated row that leaves where a column enters: the lexicographic one
-abbrev pub IsLeavingRow : Numbers → ℕ → ℕ → Type 0
+abbrev pub IsLeavingRow : WholeTableau → ℕ → ℕ → Type 0
 IsLeavingRow n col row =
     IsLexicographicRow n.rated n.rated (variable_at n.starts) (tableau n) col row
 
 -- the row that leaves where a column enters, or none where no rated row has a positive entry there
-abbrev pub IsRatioRow : Numbers → ℕ → Option ℕ → Type 0
+abbrev pub IsRatioRow : WholeTableau → ℕ → Option ℕ → Type 0
 IsRatioRow n col o =
     MatchOption o ((i : ℕ) → i < n.rated → (tableau n).cell i col ≤ℚ zero_ℚ) (IsLeavingRow n col)
 
 -- the keys of the rated rows are lexicographically positive
-abbrev pub HasPositiveKeys : Numbers → Type 0
+abbrev pub HasPositiveKeys : WholeTableau → Type 0
 HasPositiveKeys n =
     (i : ℕ) → i < n.rated → IsLexPositive (suc n.rated) (key (variable_at n.starts) (tableau n) i)
 
 -- where the row is the one that leaves, keys that are all positive stay so
-abbrev pub KeepsPositiveKeys : Numbers → ℕ → ℕ → Numbers → Type 0
+abbrev pub KeepsPositiveKeys : WholeTableau → ℕ → ℕ → WholeTableau → Type 0
 KeepsPositiveKeys n row col new = IsLeavingRow n col row → HasPositiveKeys n → HasPositiveKeys new
 
 -- The same of the tableau with these starts, variables and numbers

@@ -8,7 +8,7 @@ pub use Rattle.whole_rows.specs.Rows.{from_place, fraction, IsRow}
 
 -- what contracts see of a tableau: the start's basic variables, the basic and nonbasic variables,
 -- how many rows are rated, and the numbers row by row
-pub record Numbers : Type 0 where
+pub record WholeTableau : Type 0 where
   pub starts : List ℕ
   pub basics : List ℕ
   pub nonbasics : List ℕ
@@ -16,7 +16,7 @@ pub record Numbers : Type 0 where
   pub numbers : List ℤ
 
 -- such a value, from its parts
-abbrev pub numbers_of : List ℕ → List ℕ → List ℕ → ℕ → List ℤ → Numbers
+abbrev pub numbers_of : List ℕ → List ℕ → List ℕ → ℕ → List ℤ → WholeTableau
 numbers_of starts basics nonbasics rated numbers =
     record {
       starts = starts;
@@ -27,11 +27,11 @@ numbers_of starts basics nonbasics rated numbers =
     }
 
 -- how many numbers a row has
-abbrev pub size_of : Numbers → ℕ
+abbrev pub size_of : WholeTableau → ℕ
 size_of n = length n.nonbasics + 2
 
 -- the numbers of a row
-abbrev pub row_of : Numbers → ℕ → ℕ → ℤ
+abbrev pub row_of : WholeTableau → ℕ → ℕ → ℤ
 row_of n i = from_place n.numbers (i * (length n.nonbasics + 2))
 
 -- the tableau of fractions with these variables and numbers
@@ -48,11 +48,11 @@ tableau_of basics nonbasics numbers =
     }
 
 -- the tableau of fractions
-abbrev pub tableau : Numbers → Tableau
+abbrev pub tableau : WholeTableau → Tableau
 tableau n = tableau_of n.basics n.nonbasics n.numbers
 
 -- the column in which a variable is nonbasic, or none where it stands in none
-abbrev pub IsNonbasicColumn : Numbers → ℕ → Option ℕ → Type 0
+abbrev pub IsNonbasicColumn : WholeTableau → ℕ → Option ℕ → Type 0
 IsNonbasicColumn n variable o =
     MatchOption o ((j : ℕ) → j < length n.nonbasics → (tableau n).nonbasic j ≢ variable)
     (λ j. (j < length n.nonbasics) × ((tableau n).nonbasic j ≡ variable))
@@ -66,7 +66,7 @@ pub record IsReachedFrom (rated : ℕ) (starts : List ℕ) (t : Tableau) : Type 
   pub reached : IsReached bound rated start t
 
 -- a tableau: each row is one, and pivots on rated rows led to it
-pub record IsTableau (n : Numbers) : Type 0 where
+pub record IsTableau (n : WholeTableau) : Type 0 where
   pub starts : length n.starts ≡ length n.basics
   pub rated : n.rated ≤ length n.basics
   pub shape : length n.numbers ≡ length n.basics * (length n.nonbasics + 2)
@@ -75,7 +75,7 @@ pub record IsTableau (n : Numbers) : Type 0 where
 
 -- a tableau whose numbers are others, and whose basic variable of a row and nonbasic variable of a
 -- column have changed places
-abbrev pub with_variables_exchanged : Numbers → ℕ → ℕ → List ℤ → Numbers
+abbrev pub with_variables_exchanged : WholeTableau → ℕ → ℕ → List ℤ → WholeTableau
 with_variables_exchanged n row col numbers =
     record {
       starts = n.starts;
@@ -87,11 +87,11 @@ with_variables_exchanged n row col numbers =
 
 -- the pivot of a tableau: its fractions are those of the pivot, and the start's variables and the
 -- number of rated rows stay
-pub record IsPivotOf (n : Numbers) (row col : ℕ) (new : Numbers) : Type 0 where
+pub record IsPivotOf (n : WholeTableau) (row col : ℕ) (new : WholeTableau) : Type 0 where
   pub fractions : Alike (pivot (tableau n) row col) (tableau new)
   pub starts : new.starts ≡ n.starts
   pub rated : new.rated ≡ n.rated
 
 -- the two have the same solutions
-abbrev pub HasSolutionsOf : Numbers → Numbers → Type 0
+abbrev pub HasSolutionsOf : WholeTableau → WholeTableau → Type 0
 HasSolutionsOf n new = (x : ℕ → ℚ) → Solves (tableau n) x ↔ Solves (tableau new) x

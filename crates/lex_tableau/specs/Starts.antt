@@ -6,23 +6,23 @@ use Rattle.rational.proofs.CodeLemmas.{code_ℚ}
 use Rattle.linear_systems.specs.Tableau.{Tableau}
 use Rattle.linear_systems.specs.Rows.{HasDistinctVariables, Alike}
 pub use Rattle.whole_rows.specs.StartRows.{cells_from, start_steps, start_rows_fit}
-use Rattle.lex_tableau.specs.Rows.{Numbers, tableau}
+use Rattle.lex_tableau.specs.Rows.{WholeTableau, tableau}
 
 -- what contracts see of a system: its variables, its cells row by row with the right side last in
 -- each row, and how many rows are rated
-pub record Parts : Type 0 where
+pub record LinearSystem : Type 0 where
   pub basics : List ℕ
   pub nonbasics : List ℕ
   pub cells : List ℚ
   pub rated : ℕ
 
 -- such a value, from its parts
-abbrev pub parts_of : List ℕ → List ℕ → List ℚ → ℕ → Parts
+abbrev pub parts_of : List ℕ → List ℕ → List ℚ → ℕ → LinearSystem
 parts_of basics nonbasics cells rated =
     record { basics = basics; nonbasics = nonbasics; cells = cells; rated = rated }
 
 -- a system is stored as its three lists and a number
-abbrev pub code_of_parts : Coded Parts
+abbrev pub code_of_parts : Coded LinearSystem
 code_of_parts =
     code_by (List ℕ × (List ℕ × (List ℚ × ℕ)))
     (coded× (coded_list coded_ℕ) (coded× (coded_list coded_ℕ) (coded× (coded_list code_ℚ) coded_ℕ)))
@@ -30,7 +30,7 @@ code_of_parts =
     (λ p. parts_of p.0 p.1.0 p.1.1.0 p.1.1.1) (λ _. refl)
 
 -- the tableau that a system is
-abbrev pub system_of : Parts → Tableau
+abbrev pub system_of : LinearSystem → Tableau
 system_of s =
     record {
       rows = length s.basics;
@@ -43,7 +43,7 @@ system_of s =
 
 -- a system: no variable stands twice, each row has a cell for each column and a right side, and the
 -- rated rows are among the rows
-pub record IsSystem (s : Parts) : Type 0 where
+pub record IsSystem (s : LinearSystem) : Type 0 where
   pub distinct : HasDistinctVariables (system_of s)
   pub shape : length s.cells ≡ length s.basics * (length s.nonbasics + 1)
   pub rated : s.rated ≤ length s.basics
@@ -52,7 +52,7 @@ pub record IsSystem (s : Parts) : Type 0 where
   pub few : length s.basics < 2 ^ 32
 
 -- the start of a system
-pub record IsStartOf (s : Parts) (n : Numbers) : Type 0 where
+pub record IsStartOf (s : LinearSystem) (n : WholeTableau) : Type 0 where
   pub fractions : Alike (system_of s) (tableau n)
   pub starts : n.starts ≡ s.basics
   pub rated : n.rated ≡ s.rated

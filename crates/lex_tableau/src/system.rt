@@ -21,9 +21,9 @@ pub struct System {
 }
 
 impl Model for System {
-    ghost use Rattle.lex_tableau.specs.Starts.{Parts, parts_of, code_of_parts, IsSystem};
+    ghost use Rattle.lex_tableau.specs.Starts.{LinearSystem, parts_of, code_of_parts, IsSystem};
 
-    ghost Value = { Parts };
+    ghost Value = { LinearSystem };
 
     ghost coded = { code_of_parts };
 

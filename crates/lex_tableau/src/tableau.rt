@@ -41,9 +41,9 @@ pub struct Tableau {
 
 impl Model for Tableau {
     ghost use Rattle.lex_tableau.specs.Columns.{AreColumnsOf};
-    ghost use Rattle.lex_tableau.specs.Rows.{Numbers, numbers_of, IsTableau};
+    ghost use Rattle.lex_tableau.specs.Rows.{WholeTableau, numbers_of, IsTableau};
 
-    ghost Value = { Numbers };
+    ghost Value = { WholeTableau };
 
     ghost view = { λ t.
         numbers_of t.starts.items t.basics.items t.nonbasics.items t.rated t.numbers.items };

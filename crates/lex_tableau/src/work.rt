@@ -26,9 +26,9 @@ pub struct Work {
 
 impl Model for Work {
     ghost use Rattle.std.specs.Prelude.{◌≡◌, length};
-    ghost use Rattle.lex_tableau.specs.Rows.{Numbers, IsTableau};
+    ghost use Rattle.lex_tableau.specs.Rows.{WholeTableau, IsTableau};
 
-    ghost Value = { Numbers };
+    ghost Value = { WholeTableau };
 
     ghost view = { λ w. w.tableau };
 

@@ -6,7 +6,7 @@ use Rattle.linear_systems.specs.Rows.{Alike}
 use Rattle.linear_systems.proofs.AgreementLemmas.{alike_sym}
 use Rattle.linear_systems.proofs.PivotLemmas.{alike_solves}
 use Rattle.linear_systems.proofs.ReachedTableauLemmas.{stands_alike}
-use Rattle.linear_systems.specs.Points.{IsFeasible, IsExtremePoint, IsNonzero}
+use Rattle.linear_systems.specs.Points.{IsFeasible, IsExtremePoint, IsNonzeroAt}
 use Rattle.linear_systems.specs.Vertices.{MarkedPoint, IsMarkOf, IsVertexMark}
 use Rattle.linear_systems.specs.ExtremePointLaws.{AlikeSystemsHaveTheSameVertices}
 
@@ -14,9 +14,9 @@ point_alike : (s t : Tableau) (x : ℕ → ℚ) → Alike s t → IsFeasible s x
 point_alike s t x a h =
     record { solves = (alike_solves s t x a).0 h.solves; nonnegative = λ v d. h.nonnegative v (stands_alike t s v (alike_sym s t a) d) }
 
-nonzero_alike : (s t : Tableau) (x : ℕ → ℚ) → Alike s t → IsNonzero s x → IsNonzero t x
+nonzero_alike : (s t : Tableau) (x : ℕ → ℚ) → Alike s t → IsNonzeroAt s x → IsNonzeroAt t x
 nonzero_alike s t x a h =
-    record { column = h.column; within = subst (λ n. h.column < n) a.width h.within; other = λ e. h.other (ap x (a.nonbasic h.column h.within) ∙ e) }
+    record { place = h.place; within = subst (λ n. h.place < n) a.width h.within; differs = λ e. h.differs (ap x (a.nonbasic h.place h.within) ∙ e) }
 
 extreme_alike : (s t : Tableau) (x : ℕ → ℚ) → Alike s t → IsExtremePoint s x → IsExtremePoint t x
 extreme_alike s t x a h =

@@ -20,8 +20,12 @@ pub record IsExtremePoint (s : Tableau) (p : ℕ → ℚ) : Type 0 where
   pub alone : (x y : ℕ → ℚ) → IsFeasible s x → IsFeasible s y
       → ((v : ℕ) → IsVariableOf s v → x v +ℚ y v ≡ p v +ℚ p v) → AreEqualAt s x y
 
--- some nonbasic variable of s is not 0
-pub record IsNonzero (s : Tableau) (p : ℕ → ℚ) : Type 0 where
-  pub column : ℕ
-  pub within : column < s.width
-  pub other : p (s.nonbasic column) ≢ zero_ℚ
+-- some of the first n entries is not 0
+pub record IsNonzero (n : ℕ) (x : ℕ → ℚ) : Type 0 where
+  pub place : ℕ
+  pub within : place < n
+  pub differs : x place ≢ zero_ℚ
+
+-- x is not 0 at some nonbasic variable of s
+abbrev pub IsNonzeroAt : Tableau → (ℕ → ℚ) → Type 0
+IsNonzeroAt s x = IsNonzero s.width (λ j. x (s.nonbasic j))

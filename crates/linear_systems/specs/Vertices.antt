@@ -5,7 +5,7 @@ use Rattle.std.specs.Int.{bit_at}
 use Rattle.rational.specs.Rational.{ℚ, zero_ℚ}
 use Rattle.rational.specs.Sum.{entry_at}
 use Rattle.linear_systems.specs.Tableau.{Tableau}
-use Rattle.linear_systems.specs.Points.{IsExtremePoint, IsNonzero}
+use Rattle.linear_systems.specs.Points.{IsExtremePoint, IsNonzeroAt}
 
 -- bit l of the word is set exactly where entry l of n is 0
 pub record IsZeroWord (n : ℕ) (x : ℕ → ℚ) (word : ℕ) : Type 0 where
@@ -35,14 +35,14 @@ mask_of mark = mark.low + 2 ^ 64 * mark.high
 pub record IsVertexMark (n : ℕ) (s : Tableau) (mark : MarkedPoint) : Type 0 where
   pub solution : ℕ → ℚ
   pub extreme : IsExtremePoint s solution
-  pub nonzero : IsNonzero s solution
+  pub nonzero : IsNonzeroAt s solution
   pub marked : IsMarkOf n s solution mark
 
 -- exactly the nonzero extreme points of a system in n variables, each once, ascending by their
 -- masks
 pub record AreVertices (n : ℕ) (s : Tableau) (list : List MarkedPoint) : Type 0 where
   pub sound : All (IsVertexMark n s) list
-  pub complete : (x : ℕ → ℚ) → IsExtremePoint s x → IsNonzero s x
+  pub complete : (x : ℕ → ℚ) → IsExtremePoint s x → IsNonzeroAt s x
       → (mark : MarkedPoint) × Contains list mark × IsMarkOf n s x mark
   pub ascending : (i j : ℕ) (d : MarkedPoint) → i < j → j < length list
       → mask_of (get_or list i d) < mask_of (get_or list j d)

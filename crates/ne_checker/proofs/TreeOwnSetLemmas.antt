@@ -1,6 +1,6 @@
 -- A player's own sets, decided from the last to the first.
-use Rattle.std.proofs.Common.{ℕ, zero, suc, ◌≤◌, ◌≡◌, ◌≢◌, inl, inr, Bool, true, false, Some, List, [], ◌∷◌, ◌++◌, All, refl, sym, ap, ◌∙◌, subst, arith, append_assoc}
-use Rattle.std.specs.Prelude.{reverse, if◌then◌else◌}
+use Rattle.std.proofs.Common.{ℕ, suc, ◌≤◌, ◌≡◌, ◌≢◌, inl, inr, Some, List, [], ◌∷◌, ◌++◌, All, sym, ap, ◌∙◌, subst, arith, append_assoc}
+use Rattle.std.specs.Prelude.{reverse}
 use Rattle.std.specs.List.{flat_map}
 use Rattle.std.proofs.lemmas.Bool.{cases_eq}
 use Rattle.std.proofs.lemmas.Grind.{flat_map-append}
@@ -8,30 +8,17 @@ use Rattle.std.proofs.lemmas.List.{append-nil, reverse-append}
 use Rattle.std.proofs.lemmas.List.Elements.{All-nil, All-append}
 use Rattle.rational.specs.Rational.{ℚ}
 use Rattle.game_theory.specs.Trees.{Tree}
-use Rattle.game_theory.specs.Behaviour.{Behaviour, is_own}
-use Rattle.game_theory.specs.OwnSets.{own_below, own_sets}
-use Rattle.best_replies.proofs.WeightLemmas.{if_own, if_other}
+use Rattle.game_theory.specs.Behaviour.{Behaviour}
+use Rattle.game_theory.specs.OwnSets.{own_sets, own_numbers}
 use Rattle.frac128.specs.Steps.{Step, StepFits, IsFirstUnfit}
 use Rattle.frac128.proofs.StepRunLemmas.{first_unfit-more, first_unfit-following}
+use Rattle.strategy_lists.proofs.OwnNumberLemmas.{own_numbers-own, own_numbers-other}
 use Rattle.ne_checker.specs.TreeSides.{AreDecided}
 use Rattle.ne_checker.specs.TreeSteps.{decision_steps, decisions}
 
--- the own sets below a number stand before the later ones
-pub own_below-before : (t : Tree) (i n : ℕ) (later : List ℕ) → own_below t i n later ≡ own_below t i n [] ++ later
-own_below-before t i zero later = refl
-own_below-before t i (suc n) later = go (is_own t i n) (own_below-before t i n)
-  where
-    go : (x : Bool) → ((xs : List ℕ) → own_below t i n xs ≡ own_below t i n [] ++ xs) → own_below t i n (if x then n ∷ later else later) ≡ own_below t i n (if x then n ∷ [] else []) ++ later
-    go true h = h (n ∷ later) ∙ sym (append_assoc (own_below t i n []) (n ∷ []) later) ∙ ap (λ xs. xs ++ later) (sym (h (n ∷ [])))
-    go false h = h later
-
--- an own set comes before the later ones
-pub own_below-own : (t : Tree) (i n : ℕ) (later : List ℕ) → t.owner n ≡ Some i → own_below t i (suc n) later ≡ own_below t i n (n ∷ later)
-own_below-own t i n later o = ap (own_below t i n) (if_own t i n (n ∷ later) later o)
-
--- another set does not
-pub own_below-other : (t : Tree) (i n : ℕ) (later : List ℕ) → t.owner n ≢ Some i → own_below t i (suc n) later ≡ own_below t i n later
-own_below-other t i n later o = ap (own_below t i n) (if_other t i n (n ∷ later) later o)
+-- an own set stands between those below it and the later ones
+own-between : (t : Tree) (i n : ℕ) (later : List ℕ) → t.owner n ≡ Some i → own_numbers t.owner i (suc n) ++ later ≡ own_numbers t.owner i n ++ n ∷ later
+own-between t i n later o = ap (λ xs. xs ++ later) (own_numbers-own t.owner i n o) ∙ append_assoc (own_numbers t.owner i n) (n ∷ []) later
 
 -- the steps of one more set after those of later sets
 pub turned : (f : ℕ → List Step) (n : ℕ) (later : List ℕ) → flat_map f (reverse (n ∷ later)) ≡ flat_map f (reverse later) ++ f n
@@ -41,13 +28,13 @@ module _ (t : Tree) (b : Behaviour) (i : ℕ) (choice : ℕ → ℕ) (weights : 
   -- the own sets from this number on are decided, and the steps of their decisions fit
   pub record AreAllDecided (choices : List ℕ) (values : List ℚ) (n : ℕ) : Type 0 where
     pub later : List ℕ
-    pub are_later : own_below t i n later ≡ own_sets t i
+    pub are_later : own_numbers t.owner i n ++ later ≡ own_sets t i
     pub decided : AreDecided t b i choice weights choices values n 0
     pub fit : All StepFits (flat_map (decision_steps t b i choice) (reverse later))
 
   -- before the last set none is
   pub all-none : (choices : List ℕ) (values : List ℚ) → AreDecided t b i choice weights choices values t.sets 0 → AreAllDecided choices values t.sets
-  all-none choices values h = record { later = []; are_later = refl; decided = h; fit = All-nil StepFits }
+  all-none choices values h = record { later = []; are_later = append-nil (own_sets t i); decided = h; fit = All-nil StepFits }
 
   -- at the first set all are
   pub all-done : (choices : List ℕ) (values : List ℚ) → AreAllDecided choices values 0 → AreDecided t b i choice weights choices values 0 0 × All StepFits (decisions t b i choice)
@@ -58,7 +45,7 @@ module _ (t : Tree) (b : Behaviour) (i : ℕ) (choice : ℕ → ℕ) (weights : 
     pub all-own : (new : List ℕ) (more : List ℚ) → t.owner n ≡ Some i → AreDecided t b i choice weights new more n 0 → All StepFits (decision_steps t b i choice n) → AreAllDecided new more n
     all-own new more o decided fits = record {
       later = n ∷ h.later;
-      are_later = sym (own_below-own t i n h.later o) ∙ h.are_later;
+      are_later = sym (own-between t i n h.later o) ∙ h.are_later;
       decided = decided;
       fit = subst (All StepFits) (sym (turned (decision_steps t b i choice) n h.later)) (All-append StepFits (flat_map (decision_steps t b i choice) (reverse h.later)) (decision_steps t b i choice n) h.fit fits);
     }
@@ -67,7 +54,7 @@ module _ (t : Tree) (b : Behaviour) (i : ℕ) (choice : ℕ → ℕ) (weights : 
     pub all-other : t.owner n ≢ Some i → AreAllDecided choices values n
     all-other apart = record {
       later = h.later;
-      are_later = sym (own_below-other t i n h.later apart) ∙ h.are_later;
+      are_later = ap (λ xs. xs ++ h.later) (sym (own_numbers-other t.owner i n apart)) ∙ h.are_later;
       decided = record {
         best = h.decided.best;
         ascend = h.decided.ascend;
@@ -85,8 +72,8 @@ module _ (t : Tree) (b : Behaviour) (i : ℕ) (choice : ℕ → ℕ) (weights : 
     pub decision-refused : (u : Step) → t.owner n ≡ Some i → IsFirstUnfit (decision_steps t b i choice n) u → IsFirstUnfit (decisions t b i choice) u
     decision-refused u o refused =
         let f = decision_steps t b i choice in
-        let before = own_below t i n [] in
-        let sets : own_sets t i ≡ before ++ (n ∷ h.later) = sym h.are_later ∙ own_below-own t i n h.later o ∙ own_below-before t i n (n ∷ h.later) in
+        let before = own_numbers t.owner i n in
+        let sets : own_sets t i ≡ before ++ (n ∷ h.later) = sym h.are_later ∙ own-between t i n h.later o in
         let whole : decisions t b i choice ≡ (flat_map f (reverse h.later) ++ f n) ++ flat_map f (reverse before) =
         ap (λ xs. flat_map f (reverse xs)) sets ∙ ap (flat_map f) (reverse-append before (n ∷ h.later)) ∙ flat_map-append f (reverse (n ∷ h.later)) (reverse before)
         ∙ ap (λ x. x ++ flat_map f (reverse before)) (turned f n h.later) in

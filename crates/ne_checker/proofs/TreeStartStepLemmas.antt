@@ -10,11 +10,11 @@ use Rattle.game_theory.specs.Lines.{listed}
 use Rattle.game_theory.proofs.ProfileLineLemmas.{length-listed, get_or-listed}
 use Rattle.game_theory.specs.Trees.{Tree, IsTree}
 use Rattle.game_theory.specs.Behaviour.{Behaviour}
-use Rattle.game_theory.specs.OwnSets.{own_below}
-use Rattle.game_theory.specs.TreeEntries.{entries_from, tree_entries}
-use Rattle.behaviour_profile.proofs.BehaviourEntryLemmas.{entries_from-next}
+use Rattle.game_theory.specs.TreeEntries.{own_entries, entries_below, tree_entries}
+use Rattle.game_theory.specs.OwnSets.{own_numbers}
+use Rattle.strategy_lists.proofs.OwnNumberLemmas.{own_numbers-own, own_numbers-other}
+use Rattle.lists.proofs.ElementLemmas.{made-next}
 use Rattle.ne_checker.specs.TreeStarts.{AreStarts, AreStartsTo, ComesTo, entries_to}
-use Rattle.ne_checker.proofs.TreeOwnSetLemmas.{own_below-before, own_below-own, own_below-other}
 
 -- what stands in a list stands there before further ones
 found-left : (xs ys : List ℚ) (k : ℕ) (v : ℚ) → slice_get xs k ≡ Some v → slice_get (xs ++ ys) k ≡ Some v
@@ -32,9 +32,9 @@ module _ (t : Tree) (i n : ℕ) (starts : List ℕ) (next : ℕ) (h : AreStartsT
   entries-own : (b : Behaviour) → t.owner n ≡ Some i → entries_to t b i (n + 1) ≡ entries_to t b i n ++ listed (t.actions n) (b n)
   entries-own b o =
       let f : ℕ → List ℚ = λ s. listed (t.actions s) (b s) in
-      ap (λ xs. entries_from t b 0 i ++ flat_map f xs) (ap (λ m. own_below t i m []) (add-one n) ∙ own_below-own t i n [] o ∙ own_below-before t i n (n ∷ []))
-      ∙ ap (λ xs. entries_from t b 0 i ++ xs) (flat_map-append f (own_below t i n []) (n ∷ []) ∙ ap (λ xs. flat_map f (own_below t i n []) ++ xs) (append-nil (f n)))
-      ∙ sym (append_assoc (entries_from t b 0 i) (flat_map f (own_below t i n [])) (f n))
+      ap (λ xs. entries_below t b i ++ flat_map f xs) (ap (own_numbers t.owner i) (add-one n) ∙ own_numbers-own t.owner i n o)
+      ∙ ap (λ xs. entries_below t b i ++ xs) (flat_map-append f (own_numbers t.owner i n) (n ∷ []) ∙ ap (λ xs. flat_map f (own_numbers t.owner i n) ++ xs) (append-nil (f n)))
+      ∙ sym (append_assoc (entries_below t b i) (flat_map f (own_numbers t.owner i n)) (f n))
 
   -- the start of one own set more
   pub starts-own : n < t.sets → t.owner n ≡ Some i → AreStartsTo t i (n + 1) (set starts n next) (next + t.actions n)
@@ -66,7 +66,7 @@ module _ (t : Tree) (i n : ℕ) (starts : List ℕ) (next : ℕ) (h : AreStartsT
   }
     where
       entries-other : (b : Behaviour) → entries_to t b i (n + 1) ≡ entries_to t b i n
-      entries-other b = ap (λ xs. entries_from t b 0 i ++ flat_map (λ s. listed (t.actions s) (b s)) xs) (ap (λ m. own_below t i m []) (add-one n) ∙ own_below-other t i n [] o)
+      entries-other b = ap (λ xs. entries_below t b i ++ flat_map (λ s. listed (t.actions s) (b s)) xs) (ap (own_numbers t.owner i) (add-one n) ∙ own_numbers-other t.owner i n o)
 
       earlier : (s j : ℕ) → t.owner s ≡ Some j → ComesTo i (n + 1) j s → ComesTo i n j s
       earlier s j own (inl before) = inl before
@@ -82,8 +82,7 @@ starts-player t i starts next h = record {
   where
     entries-next : (b : Behaviour) → entries_to t b (i + 1) 0 ≡ entries_to t b i t.sets
     entries-next b =
-        append-nil (entries_from t b 0 (i + 1)) ∙ ap (entries_from t b 0) (add-one i) ∙ entries_from-next t b 0 i
-        ∙ ap (λ x. entries_from t b 0 i ++ flat_map (λ s. listed (t.actions s) (b s)) (own_below t x t.sets [])) (omega arith)
+        append-nil (entries_below t b (i + 1)) ∙ ap (entries_below t b) (add-one i) ∙ made-next (own_entries t b) i
 
     earlier : (s j : ℕ) → s < t.sets → ComesTo (i + 1) 0 j s → ComesTo i t.sets j s
     earlier s j k (inl before) = elim (cases_eq j i) [ inl same ↦ inr (same, k) | inr apart ↦ inl (omega arith) ]
@@ -93,7 +92,7 @@ starts-player t i starts next h = record {
 pub starts-all : (t : Tree) (n : ℕ) (starts : List ℕ) (next : ℕ) → IsTree t → n ≡ t.players → AreStartsTo t n 0 starts next → AreStarts t starts
 starts-all t n starts next w all h = record {
   long = h.long;
-  stand = λ b s i a l o m. subst (λ xs. slice_get xs (get_or starts s 0 + a) ≡ Some (b s a)) (append-nil (entries_from t b 0 n) ∙ ap (entries_from t b 0) all) (h.stand b s i a l o (inl (omega (arith, w.owners_within s i l o))) m);
+  stand = λ b s i a l o m. subst (λ xs. slice_get xs (get_or starts s 0 + a) ≡ Some (b s a)) (append-nil (entries_below t b n) ∙ ap (entries_below t b) all) (h.stand b s i a l o (inl (omega (arith, w.owners_within s i l o))) m);
 }
 
 module _ (t : Tree) (starts : List ℕ) (entries : List ℚ) (b : Behaviour) (h : AreStarts t starts) (is : entries ≡ tree_entries t b) where

@@ -5,10 +5,9 @@ ghost use Rattle.ne_checker.specs.TreeStarts.{AreStarts, AreStartsTo};
 
 use crate::trees_board::Board;
 use crate::trees_player::{check_player, write_reply};
-use crate::trees_side::is_own;
 use frac128::{Frac, Memory, Unfit};
 use game_core::Tree;
-use game_core::tree_parts::{action_count, stands_for_game_tree};
+use game_core::tree_parts::{action_count, is_own, stands_for_game_tree};
 use pure_payoffs::children_of_all;
 use std::alloc::Global;
 

@@ -2,10 +2,9 @@
 ghost use Rattle.std.specs.Prelude.{◌≡◌, ◌<◌, length};
 ghost use Rattle.game_theory.specs.Behaviour.{Behaviour};
 
-use crate::trees_side::is_own;
 use frac128::{Frac, Unfit};
 use game_core::Tree;
-use game_core::tree_parts::{action_count, branch, owner, parent, pays, probability, set};
+use game_core::tree_parts::{action_count, branch, is_own, owner, parent, pays, probability, set};
 
 /// A behaviour on a tree, as a check reads it. Players, nodes, sets and actions are numbered
 /// from 0.

@@ -11,9 +11,10 @@ ghost use Rattle.ne_checker.specs.TreeSides.{AreChosen};
 ghost use Rattle.ne_checker.specs.TreeSteps.{best_steps, player_steps};
 
 use crate::trees_board::Board;
-use crate::trees_side::{Side, is_own};
+use crate::trees_side::Side;
 use frac128::{Frac, Unfit};
 use game_core::Tree;
+use game_core::tree_parts::is_own;
 
 // What a player's best choices pay; writes these at the player's sets.
 fn best_payoff(

@@ -1,11 +1,10 @@
 // A player's replies: what nodes and actions are worth, and which actions are best.
-ghost use Rattle.std.specs.Prelude.{◌≡◌, ◌<◌, ◌↔◌, IsTrue, Some, false, length, true};
+ghost use Rattle.std.specs.Prelude.{◌≡◌, ◌<◌, false, true};
 ghost use Rattle.rational.specs.Rational.{◌≤ℚ◌, ◌<ℚ◌};
-ghost use Rattle.game_core.specs.TreeGame.{game_of_tree};
 
 use frac128::{Frac, Unfit};
 use game_core::Tree;
-use game_core::tree_parts::{action_count, owner, pays, set, stands_for_game_tree};
+use game_core::tree_parts::{action_count, is_own, pays, set, stands_for_game_tree};
 
 /// A player to whom a behaviour of the others leaves a reply. Players, nodes, sets and actions are
 /// numbered from 0.
@@ -20,17 +19,6 @@ pub(crate) struct Side<'a> {
     pub(crate) weights: &'a [Frac],
     /// The player.
     pub(crate) player: u32,
-}
-
-// Whether a set is a player's own.
-pub(crate) fn is_own(tree: &Tree, set: usize, player: u32) -> bool
-    requires { set < length tree.now.sets }
-    ensures { IsTrue result ↔ ((game_of_tree tree.now).owner set ≡ Some player) }
-{
-    match owner(tree, set) {
-        Some(owner) => owner == player,
-        None => false,
-    }
 }
 
 // Whether an action's value is the greatest so far, where the actions before have this greatest

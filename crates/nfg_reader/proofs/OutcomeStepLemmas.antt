@@ -7,7 +7,8 @@ use Rattle.game_core.specs.declared.token.Spanned.{Spanned}
 use Rattle.game_core.specs.declared.token.Token.{Token}
 use Rattle.file_parts.specs.declared.stop.PartStop.{PartStop}
 use Rattle.file_parts.specs.declared.stop.PartStop.TheVariants as part_stops
-use Rattle.file_parts.specs.Reading.{kinds, left_at, right_at, text_at, opens}
+use Rattle.game_core.specs.TokenList.{bare}
+use Rattle.file_parts.specs.Reading.{left_at, right_at, text_at, opens}
 use Rattle.file_parts.specs.Parsing.{Parsed, ◌>>=◌, parse_each, parse_payoffs, IsPartStop}
 use Rattle.file_parts.proofs.TokenLaws.{left_is, right_is, text_is}
 use Rattle.file_parts.proofs.NumberLaws.{payoffs_are}
@@ -89,20 +90,20 @@ outcome_named outcomes one players (suc n) f lt le e =
     nth_of outcomes one n f (omega arith) (rw less at e)
 
 -- an outcome takes tokens
-pub outcome_shorter : (tokens inner following last rest : List Spanned) (name : List ℕ) (n : ℕ) (payoffs : List ℚ) → left_at (kinds tokens) ≡ Some (kinds inner) → text_at (kinds inner) ≡ Some (name, kinds following) → parse_payoffs Outcome n (kinds following) ≡ Ok (payoffs, kinds last) → right_at (kinds last) ≡ Some (kinds rest)
+pub outcome_shorter : (tokens inner following last rest : List Spanned) (name : List ℕ) (n : ℕ) (payoffs : List ℚ) → left_at (bare tokens) ≡ Some (bare inner) → text_at (bare inner) ≡ Some (name, bare following) → parse_payoffs Outcome n (bare following) ≡ Ok (payoffs, bare last) → right_at (bare last) ≡ Some (bare rest)
     → length rest < length tokens
 outcome_shorter tokens inner following last rest name n payoffs l t p r =
     let L = λ (s : Spanned). s.token in
-    let one = left_is (kinds tokens) (kinds inner) l in
-    let two = text_is (kinds inner) (name, kinds following) t in
-    let three = payoffs_are n (kinds following) (payoffs, kinds last) (sym (value_payoffs Outcome n (kinds following)) ∙ ap value p) in
-    let four = right_is (kinds last) (kinds rest) r in
-    let a : length (kinds tokens) ≡ suc (length (kinds inner)) = ap length one in
-    let b : length (kinds inner) ≡ suc (length (kinds following)) = ap length two in
-    let d : length (kinds following) ≡ length three.front + length (kinds last) = ap length three.is ∙ length-append three.front (kinds last) in
-    let e : length (kinds last) ≡ suc (length (kinds rest)) = ap length four in
-    let f : length (kinds tokens) ≡ length tokens = length-map tokens L in
-    let g : length (kinds rest) ≡ length rest = length-map rest L in
+    let one = left_is (bare tokens) (bare inner) l in
+    let two = text_is (bare inner) (name, bare following) t in
+    let three = payoffs_are n (bare following) (payoffs, bare last) (sym (value_payoffs Outcome n (bare following)) ∙ ap value p) in
+    let four = right_is (bare last) (bare rest) r in
+    let a : length (bare tokens) ≡ suc (length (bare inner)) = ap length one in
+    let b : length (bare inner) ≡ suc (length (bare following)) = ap length two in
+    let d : length (bare following) ≡ length three.front + length (bare last) = ap length three.is ∙ length-append three.front (bare last) in
+    let e : length (bare last) ≡ suc (length (bare rest)) = ap length four in
+    let f : length (bare tokens) ≡ length tokens = length-map tokens L in
+    let g : length (bare rest) ≡ length rest = length-map rest L in
     omega arith
 
 -- one more in a list

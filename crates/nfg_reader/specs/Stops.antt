@@ -17,10 +17,10 @@ use Rattle.nfg_reader.specs.declared.reading.NfgStop.TheVariants as stops
 -- The table of a file, within the limit on payoffs. A fault comes with its kind and offset where the tokens have one and do not
 -- pass the limit; the limit comes where it is passed.
 abbrev pub table_in : TokenList → Answer NfgStop GameTable
-table_in tokens (Ok table) = IsTableFile (bare tokens) table × IsTable table
-table_in tokens (Err (stops.Fault fault)) = IsFault tokens fault.kind fault.at × ¬ (HasTooManyPayoffs (bare tokens))
+table_in tokens (Ok table) = IsTableFile (bare tokens.list) table × IsTable table
+table_in tokens (Err (stops.Fault fault)) = IsFault tokens fault.kind fault.at × ¬ (HasTooManyPayoffs (bare tokens.list))
 table_in tokens (Err (stops.TooLarge limit)) =
-    HasTooManyPayoffs (bare tokens) × (limit ≡ first_above Payoffs most_payoffs)
+    HasTooManyPayoffs (bare tokens.list) × (limit ≡ first_above Payoffs most_payoffs)
 table_in tokens (Err stops.Memory) = ⊥
 
 -- the stop that a part's becomes

@@ -130,10 +130,10 @@ pub fn tables_are_single()
 pub fn faults_are_single()
     ensures one { (tokens : TokenList) (kind other : NfgKind) (at offset : ℕ)
         → IsFault tokens kind at → IsFault tokens other offset → (kind ≡ other) × (at ≡ offset) }
-    ensures of_no_file { (tokens : TokenList) (kind : NfgKind) (at : ℕ) → IsFile (bare tokens)
+    ensures of_no_file { (tokens : TokenList) (kind : NfgKind) (at : ℕ) → IsFile (bare tokens.list)
         → IsFault tokens kind at → ⊥ }
     ensures of_others { (tokens : TokenList)
-        → IsFile (bare tokens) ⊎ ((kind : NfgKind) × (at : ℕ) × IsFault tokens kind at) }
+        → IsFile (bare tokens.list) ⊎ ((kind : NfgKind) × (at : ℕ) × IsFault tokens kind at) }
 {}
 
 /// The tokens of a file stand for one table at most.

@@ -7,14 +7,14 @@ use Rattle.game_theory.proofs.OwnSetLemmas.{is_own-decides}
 use Rattle.game_theory.specs.FirstNodes.{AreNumberedByFirstNodes}
 use Rattle.game_theory.specs.Trees.{Tree, IsTree}
 use Rattle.game_theory.specs.Behaviour.{is_own}
-use Rattle.game_theory.specs.Recall.{own_history, HasPerfectRecall}
+use Rattle.game_theory.specs.Recall.{own_history, HasPerfectRecall, HaveOneHistory}
 use Rattle.reduced_strategies.proofs.HistoryLemmas.{along_paths}
 use Rattle.sequence_forms.specs.Sequences.{last_edge}
 use Rattle.sequence_forms.proofs.SequenceLemmas.{history-own, history-other, last_edge-append, history_before-is}
 use Rattle.perfect_recall.specs.LastEdges.{AreLastEdges}
 use Rattle.game_theory.specs.OwnSets.{Chooses}
 use Rattle.perfect_recall.specs.Members.{edge_of, HaveSameEdge, IsOtherMember}
-use Rattle.perfect_recall.specs.Found.{HaveOneHistory, EarlierHaveOneHistory, IsFirstNode, IsFirstOther, edge_before}
+use Rattle.perfect_recall.specs.Found.{EarlierHaveOneHistory, IsFirstNode, IsFirstOther, edge_before}
 use Rattle.perfect_recall.proofs.MemberLemmas.{AreMembers}
 
 -- the last node above node k at which player i chooses, and the action there
@@ -135,10 +135,6 @@ module _ (t : Tree) (i s : ℕ) (members : List ℕ) (edges : List (Option (ℕ 
               ]
             ];
       }
-
--- a player who recalls is alike in all sets
-pub recall-alike : (t : Tree) (i s : ℕ) → HasPerfectRecall t i → t.owner s ≡ Some i → HaveOneHistory t i s
-recall-alike t i s h own k l in_k in_l at_k at_l = h s k l own in_k in_l at_k at_l
 
 -- ---- the edge before a set
 -- under perfect recall it is that before the first member

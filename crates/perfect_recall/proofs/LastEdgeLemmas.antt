@@ -8,8 +8,8 @@ use Rattle.game_theory.specs.Trees.{Tree, IsTree, IsAbove, IsWithin}
 use Rattle.game_theory.specs.Recall.{own_history}
 use Rattle.sequence_forms.specs.Sequences.{last_edge}
 use Rattle.sequence_forms.proofs.SequenceLemmas.{history-own, history-other, last_edge-append}
-use Rattle.perfect_recall.specs.LastEdges.{NobodyChooses, AreLast, AreLastEdges, IsEdgeBefore}
-use Rattle.game_theory.specs.OwnSets.{Chooses}
+use Rattle.perfect_recall.specs.LastEdges.{AreLast, AreLastEdges, IsEdgeBefore}
+use Rattle.game_theory.specs.OwnSets.{Chooses, NobodyChooses}
 
 -- one player alone chooses at a node
 one_chooses : (t : Tree) (k i s j r : ℕ) → Chooses t k i s → Chooses t k j r → i ≡ j

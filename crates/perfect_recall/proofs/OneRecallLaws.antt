@@ -5,13 +5,12 @@ use Rattle.std.proofs.lemmas.List.{get_or-map}
 use Rattle.std.proofs.lemmas.Option.{same_Some, slice_get_within, get_or_from_slice_get}
 use Rattle.answers.specs.Answers.{IsSingle}
 use Rattle.game_theory.specs.Trees.{Tree, IsTree as is_game_tree}
-use Rattle.game_theory.specs.Recall.{HasPerfectRecall}
+use Rattle.game_theory.specs.Recall.{HasPerfectRecall, HaveOneHistory}
 use Rattle.game_core.specs.Tree.{GameTree, InformationSet}
 use Rattle.game_core.specs.TreeGame.{game_of_tree}
 use Rattle.perfect_recall.specs.declared.recall.Forgets.{Forgets}
 use Rattle.perfect_recall.specs.declared.recall.RecallStop.TheVariants as stops
-use Rattle.perfect_recall.specs.Found.{HaveOneHistory, IsFirstNode, IsFirstOther, ForgetsAt, IsForgetting, IsRecallOf, recall_of}
-use Rattle.perfect_recall.proofs.HistoryLemmas.{recall-alike}
+use Rattle.perfect_recall.specs.Found.{IsFirstNode, IsFirstOther, ForgetsAt, IsForgetting, IsRecallOf, recall_of}
 
 -- the owner of a set by the tree's list
 pub owner-at : (t : GameTree) (n : ℕ) (set : InformationSet) → slice_get t.sets n ≡ Some set → (game_of_tree t).owner n ≡ set.owner
@@ -26,7 +25,7 @@ own t f h = owner-at t h.number h.set h.stands_at ∙ h.own
 
 -- so the player does not recall
 forgets-not_recalls : (t : GameTree) (f : Forgets) → ForgetsAt t f → HasPerfectRecall (game_of_tree t) f.player → ⊥
-forgets-not_recalls t f h recall = not_alike t f h (recall-alike (game_of_tree t) f.player h.number recall (own t f h))
+forgets-not_recalls t f h recall = not_alike t f h (recall h.number (own t f h))
 
 -- the first player is one
 same_player : (t : GameTree) (f g : Forgets) → IsForgetting t f → IsForgetting t g → f.player ≡ g.player

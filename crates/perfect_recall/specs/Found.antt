@@ -3,7 +3,7 @@ use Rattle.std.specs.Prelude.{ℕ, ◌<◌, ◌≡◌, ◌≢◌, List, map, sli
 use Rattle.std.specs.List.{range_with_len}
 use Rattle.answers.specs.Answers.{Answer}
 use Rattle.game_theory.specs.Trees.{Tree}
-use Rattle.game_theory.specs.Recall.{own_history, HasPerfectRecall}
+use Rattle.game_theory.specs.Recall.{own_history, HasPerfectRecall, HaveOneHistory}
 use Rattle.sequence_forms.specs.Sequences.{last_edge, history_before}
 use Rattle.game_core.specs.Tree.{GameTree, InformationSet}
 use Rattle.game_core.specs.TreeGame.{game_of_tree}
@@ -23,13 +23,7 @@ pub record IsRecallOf (t : Tree) (before : List (Option (ℕ × ℕ))) : Type 0 
   pub before_is : before ≡ map (λ s. edge_before t s (t.owner s)) (range_with_len 0 t.sets)
 
 -- ---- a player who forgets
--- the nodes of set s have one own history for player i
-abbrev pub HaveOneHistory : Tree → ℕ → ℕ → Type 0
-HaveOneHistory t i s =
-    (k l : ℕ) → k < t.size → l < t.size → t.set k ≡ Some s → t.set l ≡ Some s
-    → own_history t i k ≡ own_history t i l
-
--- the nodes of each of player i's own sets before set s have one
+-- the nodes of each of player i's own sets before set s have one own history
 abbrev pub EarlierHaveOneHistory : Tree → ℕ → ℕ → Type 0
 EarlierHaveOneHistory t i s = (r : ℕ) → r < s → t.owner r ≡ Some i → HaveOneHistory t i r
 

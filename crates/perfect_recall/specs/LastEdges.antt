@@ -3,11 +3,7 @@ use Rattle.std.specs.Prelude.{ℕ, ◌<◌, ◌≡◌, List, length, slice_index
 use Rattle.game_theory.specs.Trees.{Tree}
 use Rattle.game_theory.specs.Recall.{own_history}
 use Rattle.sequence_forms.specs.Sequences.{last_edge}
-use Rattle.game_theory.specs.OwnSets.{Chooses}
-
--- no player chooses at node k
-abbrev pub NobodyChooses : Tree → ℕ → Type 0
-NobodyChooses t k = (i s : ℕ) → Chooses t k i s → ⊥
+use Rattle.game_theory.specs.OwnSets.{Chooses, NobodyChooses}
 
 -- for each player the last own edge on the path to node k
 pub record AreLast (t : Tree) (k : ℕ) (last : List (Option (ℕ × ℕ))) : Type 0 where

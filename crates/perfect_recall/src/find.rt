@@ -1,13 +1,13 @@
 // Whether the players recall.
 ghost use Rattle.std.specs.Prelude.{◌≡◌, ◌<◌, ◌+◌, ℕ, length, slice_index, IfOk, MatchOption, Some};
 ghost use Rattle.answers.specs.Answers.{Gives, IsSingle};
-ghost use Rattle.game_theory.specs.Recall.{HasPerfectRecall};
+ghost use Rattle.game_theory.specs.Recall.{HasPerfectRecall, HaveOneHistory};
 ghost use Rattle.game_core.specs.Tree.{GameTree, IsGameTree};
 ghost use Rattle.game_core.specs.TreeGame.{game_of_tree};
 ghost use Rattle.perfect_recall.specs.declared.recall.RecallStop.TheVariants as stops;
 ghost use Rattle.perfect_recall.specs.LastEdges.{AreLastEdges};
 ghost use Rattle.perfect_recall.specs.Members.{HaveSameEdge, IsForgettingBelow, IsOtherMember, NobodyForgetsBelow};
-ghost use Rattle.perfect_recall.specs.Found.{EarlierHaveOneHistory, ForgetsAt, HaveOneHistory, IsRecallOf, recall_of, edge_before};
+ghost use Rattle.perfect_recall.specs.Found.{EarlierHaveOneHistory, ForgetsAt, IsRecallOf, recall_of, edge_before};
 
 use crate::paths::last_edges;
 use crate::recall::{Forgets, Recall, RecallStop};

@@ -1,26 +1,13 @@
 // The players' last own edges on the paths of a tree.
-ghost use Rattle.std.specs.Prelude.{◌≡◌, ◌<◌, None, Some, length, IfOk, MatchOption};
+ghost use Rattle.std.specs.Prelude.{◌≡◌, ◌<◌, None, Some, length, IfOk};
 ghost use Rattle.game_theory.specs.Trees.{IsWithin};
 ghost use Rattle.game_core.specs.TreeGame.{game_of_tree};
-ghost use Rattle.perfect_recall.specs.LastEdges.{AreLast, AreLastEdges, IsEdgeBefore, NobodyChooses};
-ghost use Rattle.game_theory.specs.OwnSets.{Chooses};
+ghost use Rattle.perfect_recall.specs.LastEdges.{AreLast, AreLastEdges, IsEdgeBefore};
 
 use answers::Memory;
 use game_core::Tree;
-use game_core::tree_parts::{branch, owner, parent, set, stands_for_game_tree};
+use game_core::tree_parts::{branch, choice_at, parent, stands_for_game_tree};
 use std::alloc::Global;
-
-// The player who chooses at a node, and the node's set; nothing where no player does.
-fn choice_at(tree: &Tree, node: usize) -> Option<(u32, u32)>
-    requires { node < length tree.now.nodes }
-    ensures { MatchOption result (NobodyChooses (game_of_tree tree.now) node)
-        (λ it. Chooses (game_of_tree tree.now) node it.0 it.1) }
-{
-    stands_for_game_tree(tree);
-    let set = set(tree, node)?;
-    let player = owner(tree, set as usize)?;
-    Some((player, set))
-}
 
 // Turns the players' last edges at a node into those at a node above it. `edges` has the edges before the nodes that
 // come before it.

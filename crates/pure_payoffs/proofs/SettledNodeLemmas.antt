@@ -22,7 +22,7 @@ module _ (t : Tree) (w : IsTree t) where
   module _ (i : ℕ) (one other : ℕ → ℕ) where
     -- the value is the same for each choice
     settled-value : (k : ℕ) → k < t.size → IsSettled t k → value t (pure one) i k ≡ value t (pure other) i k
-    settled-value k l h = value-agree t (pure one) (pure other) i k w l (λ c s j a n m e o b. absurd (h c m n s j e o))
+    settled-value k l h = value-agree t (pure one) (pure other) i k w l (λ c s j a n m e o b. absurd (h c m n j s (record { at_set = e; own = o })))
 
     -- what comes after a node of chance is, where the steps of the children are
     module _ (d k s : ℕ) (l : k < t.size) (h : IsSettled t k) (e : t.set k ≡ Some s) (later : (c : ℕ) → c < t.size → IsSettled t c → steps_to t one i d c ≡ steps_to t other i d c) where
@@ -38,7 +38,7 @@ module _ (t : Tree) (w : IsTree t) where
           ap₂ (λ x y. x ++ unfit Add (t.pays k i) y ∷ [])
           (chance_steps-same (t.actions s) (t.chance s) (λ a. value t (pure one) i (child t k a)) (λ a. value t (pure other) i (child t k a)) (λ a. steps_to t one i d (child t k a)) (λ a. steps_to t other i d (child t k a)) values steps)
           (weighted-same (t.actions s) (t.chance s) (λ a. value t (pure one) i (child t k a)) (λ a. value t (pure other) i (child t k a)) values)
-      by_owner (Some j) p = absurd (h k l (0, refl) s j e p)
+      by_owner (Some j) p = absurd (h k l (0, refl) j s (record { at_set = e; own = p }))
 
     -- the steps of a node are, where those of the children are
     settled-step : (d k : ℕ) → k < t.size → IsSettled t k → ((c : ℕ) → c < t.size → IsSettled t c → steps_to t one i d c ≡ steps_to t other i d c) → steps_to t one i (suc d) k ≡ steps_to t other i (suc d) k

@@ -1,28 +1,25 @@
--- Nodes in whose subtrees no player moves: what they give is the same for every profile.
+-- Nodes in whose subtrees no player chooses: what they give is the same for every profile.
 use Rattle.std.specs.Prelude.{ℕ, ◌<◌, ◌≡◌, Bool, true, false, List, [], length, map, slice_index_or, Option, Some, None, IfSome, Ok}
 use Rattle.rational.specs.Rational.{ℚ}
 use Rattle.game_theory.specs.Trees.{Tree, IsWithin}
+use Rattle.game_theory.specs.OwnSets.{NobodyChooses}
 use Rattle.pure_payoffs.specs.declared.settled.Settled.{Settled}
 use Rattle.pure_payoffs.specs.Plays.{GiveAt}
 
--- no player moves at node k
-abbrev pub NoPlayerAt : Tree → ℕ → Type 0
-NoPlayerAt t k = (s i : ℕ) → t.set k ≡ Some s → t.owner s ≡ Some i → ⊥
-
--- no player moves in the subtree of node k
+-- no player chooses in the subtree of node k
 abbrev pub IsSettled : Tree → ℕ → Type 0
-IsSettled t k = (c : ℕ) → c < t.size → IsWithin t k c → NoPlayerAt t c
+IsSettled t k = (c : ℕ) → c < t.size → IsWithin t k c → NobodyChooses t c
 
 -- whatever the players choose, node k gives player i this value, and its steps fit
 abbrev pub Settles : Tree → ℕ → ℕ → ℚ → Type 0
 Settles t i k v = (choice : ℕ → ℕ) → GiveAt t choice i k (Ok v)
 
--- for each of the first n nodes whether it is idle: at idle nodes no player moves
+-- for each of the first n nodes whether it is idle: at idle nodes no player chooses
 pub record AreWithoutPlayers (t : Tree) (n : ℕ) (idle : List Bool) : Type 0 where
   pub one_for_each : length idle ≡ n
-  pub no_player : (k : ℕ) → k < n → slice_index_or idle k false ≡ true → NoPlayerAt t k
+  pub no_player : (k : ℕ) → k < n → slice_index_or idle k false ≡ true → NobodyChooses t k
 
--- for each node whether it is idle; in the subtrees of idle nodes no player moves
+-- for each node whether it is idle; in the subtrees of idle nodes no player chooses
 pub record AreSettledNodes (t : Tree) (idle : List Bool) : Type 0 where
   pub one_for_each : length idle ≡ t.size
   pub settled : (k : ℕ) → k < t.size → slice_index_or idle k false ≡ true → IsSettled t k

@@ -1,7 +1,7 @@
 -- Why what a profile pays is not computed. Players count from 0.
 use Rattle.std.specs.Prelude.{ℕ}
 use Rattle.std.specs.List.{range_with_len}
-use Rattle.answers.specs.Answers.{Answer, refused_by}
+use Rattle.answers.specs.Answers.{Answer, IsSingle, refused_by}
 use Rattle.game_theory.specs.Trees.{Tree}
 use Rattle.frac128.specs.FirstUnfit.{all_fit}
 use Rattle.pure_payoffs.specs.Steps.{payoff_steps}
@@ -13,3 +13,7 @@ abbrev pub payoffs_in : Tree → (ℕ → ℕ) → Answer PayoffStop (Unit {0})
 payoffs_in t choice =
     refused_by (λ stop. stops.Range stop.0 stop.1)
     (all_fit (payoff_steps t choice) (range_with_len 0 t.players))
+
+-- A choice at each set has one answer.
+abbrev pub PayoffsAreSingle : Type 0
+PayoffsAreSingle = (t : Tree) (choice : ℕ → ℕ) → IsSingle (payoffs_in t choice)

@@ -3,7 +3,8 @@
 //!
 //! Callers may rely on: `Play::push_payoffs` gives what a profile pays each player, or the first
 //! step in the order of `specs::Steps` that does not fit; `children_of_all`, the children of each
-//! node and no more. `Shortcuts` are a tree's, and nothing else is known of them.
+//! node and no more; `payoffs_are_single`. `Shortcuts` are a tree's, and nothing else is known of
+//! them.
 //! Definitions: `specs::Steps` has the steps of a payoff in order, `Stops` what a profile answers,
 //! `Plays` the game and the choices of a play, `ChildLists` how long a node's list of children is.
 //! Private words: `specs::Shortcuts` and `Settled`, what is kept from profile to profile.
@@ -13,12 +14,14 @@
 #![tactic(auto)]
 
 mod children;
+mod laws;
 mod payoff;
 mod settled;
 mod shortcuts;
 mod stop;
 
 pub use children::children_of_all;
+pub use laws::payoffs_are_single;
 pub use payoff::Play;
 pub use shortcuts::Shortcuts;
 pub use stop::PayoffStop;

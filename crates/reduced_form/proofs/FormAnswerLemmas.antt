@@ -19,13 +19,6 @@ use Rattle.reduced_form.proofs.FormCountLemmas.{choice_count-by, counted-same}
 pub form_of : (tree : GameTree) (form : ReducedForm) → reduced_form_of tree (Ok form) → IsReducedForm tree form
 form_of tree form h = h.2.2.2.0
 
--- want of memory is no reason
-pub form_not_memory : (tree : GameTree) → reduced_form_of tree (Err stops.Memory) → ⊥
-form_not_memory tree (inl h) = h
-form_not_memory tree (inr (_, _, inl (_, _, e))) = cc
-form_not_memory tree (inr (_, _, inr (_, _, inl (_, _, e)))) = cc
-form_not_memory tree (inr (_, _, inr (_, _, inr (_, _, h)))) = h
-
 -- ---- the stages
 -- both counts are within their limits
 pub form-within : (t : Tree) (counts : List ℕ) (strategies : List (List (List ℕ))) → AreCounted t counts → AreStrategies t strategies → t.players * profile_count counts ≤ most_payoffs → choices_by t 0 counts ≤ most_choices → within_limits t strategies (Ok tt)

@@ -8,4 +8,3 @@ pub mod KeptCellLemmas
 pub mod KeptFormLemmas
 pub mod KeptSingleLemmas
 pub mod OneFormLaws
-mod SetCountLemmas

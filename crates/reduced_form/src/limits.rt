@@ -3,7 +3,6 @@ ghost use Rattle.std.specs.Prelude.{◌≡◌, ◌<◌, ◌≤◌, ◌*◌, leng
 ghost use Rattle.answers.specs.Answers.{Gives};
 ghost use Rattle.game_theory.specs.Profiles.{profile_count};
 ghost use Rattle.game_core.specs.Table.{most_payoffs};
-ghost use Rattle.game_core.specs.Tree.{own_sets as tree_sets};
 ghost use Rattle.game_core.specs.TreeGame.{game_of_tree};
 ghost use Rattle.reduced_form.specs.declared.stop.ReduceStop.TheVariants as stops;
 ghost use Rattle.reduced_form.specs.Counts.{AreCounted, counts_in};
@@ -15,7 +14,7 @@ ghost use Rattle.game_theory.specs.OwnSets.{own_sets};
 use crate::stop::ReduceStop;
 use game_core::{MOST_PAYOFFS, TooLarge, Tree, What, trees_are_game_trees};
 use std::alloc::Global;
-use strategy_lists::{Decisions, own_sets_are_those_of_the_tree};
+use strategy_lists::Decisions;
 
 // The most choices of a reduced form.
 const MOST_CHOICES: u64 = 67_108_864;
@@ -63,7 +62,7 @@ pub fn count_all(alloc: Global, decisions: &Decisions) -> Result<Vec<usize>, Red
 // How many own sets a player has.
 fn own_set_count(tree: &Tree, player: u32) -> usize
     requires { player < length tree.now.players }
-    ensures { result ≡ length (tree_sets tree.now player) }
+    ensures { result ≡ length (own_sets (game_of_tree tree.now) player) }
 {
     let sets = tree.sets().len();
     let mut count = 0;
@@ -82,7 +81,6 @@ pub fn check_choices(tree: &Tree, counts: &[usize]) -> Result<(), ReduceStop>
         (λ stop. Gives stops.Memory (counts_in (game_of_tree tree.now)) (Err stop)) }
 {
     trees_are_game_trees();
-    own_sets_are_those_of_the_tree();
     let mut choices = 0;
     for player in 0..tree.players().len() {
         choices += counts[player] as u64 * own_set_count(tree, player as u32) as u64;

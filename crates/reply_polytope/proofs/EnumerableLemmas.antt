@@ -12,16 +12,16 @@ use Rattle.extreme_equilibria.specs.TwoPlayers.{pays_against}
 use Rattle.extreme_equilibria.specs.Bimatrix.{shifted, shift_of}
 use Rattle.extreme_equilibria.specs.Systems.{first_system, second_system}
 use Rattle.extreme_equilibria.proofs.SystemLemmas.{first_variables, second_variables}
-use Rattle.lex_tableau.specs.Starts.{Parts, system_of}
+use Rattle.lex_tableau.specs.Starts.{LinearSystem, system_of}
 use Rattle.reply_polytope.specs.Polytopes.{IsRatedSystem}
 use Rattle.reply_polytope.proofs.PolytopeLemmas.{ArePolytopesOf}
 
 -- how many variables a system has
-abbrev pub variables : Parts → ℕ
+abbrev pub variables : LinearSystem → ℕ
 variables s = length s.basics + length s.nonbasics
 
 -- a system of rows and columns with right sides 1, whose variables are the numbers from 1 on
-module _ (t : Tableau) (s : Parts) (h : IsRatedSystem t s) (rights : (i : ℕ) → t.right i ≡ one_ℚ) (numbered : (v : ℕ) → IsVariableOf t v ↔ ((0 < v) × (v ≤ t.rows + t.width))) where
+module _ (t : Tableau) (s : LinearSystem) (h : IsRatedSystem t s) (rights : (i : ℕ) → t.right i ≡ one_ℚ) (numbered : (v : ℕ) → IsVariableOf t v ↔ ((0 < v) × (v ≤ t.rows + t.width))) where
   count_is : t.rows + t.width ≡ variables s
   count_is = ap₂ (λ r w. r + w) h.alike.rows h.alike.width
 
@@ -55,7 +55,7 @@ second_numbered m n a v = (to, from_one (IsVariableOf (second_system m n a)) (m 
     to (in_row i l e) = (omega (arith, e), omega (arith, l, e))
     to (in_column j l e) = (omega (arith, e), omega (arith, l, e))
 
-module _ (g : Game) (one two : Parts) (h : ArePolytopesOf g one two) where
+module _ (g : Game) (one two : LinearSystem) (h : ArePolytopesOf g one two) where
   abbrev c : ℕ → ℕ → ℚ
   c = shifted (shift_of h.least') (pays_against g 1)
 

@@ -1,22 +1,21 @@
 -- What the two systems of a game are, and that want of memory is no reason why there are none.
-use Rattle.std.proofs.Common.{ℕ, ◌+◌, ◌<◌, ◌≤◌, ◌≡◌, inl, inr, Ok, Err, [], ◌∷◌, sum, ap, refl, sym, subst, arith}
+use Rattle.std.proofs.Common.{ℕ, ◌+◌, ◌<◌, ◌≤◌, ◌≡◌, Ok, [], ◌∷◌, sum, ap, refl, sym, subst, arith}
 use Rattle.answers.specs.Answers.{only}
-use Rattle.answers.proofs.AnswerLemmas.{only-single, single-exclude, single-value}
+use Rattle.answers.proofs.AnswerLemmas.{only-single, single-value}
 use Rattle.rational.specs.Rational.{ℚ}
 use Rattle.rational.specs.Extremes.{IsLeast}
 use Rattle.game_theory.specs.Profiles.{Game}
 use Rattle.extreme_equilibria.specs.TwoPlayers.{pays_against}
 use Rattle.extreme_equilibria.specs.Bimatrix.{shifted, shift_of}
 use Rattle.extreme_equilibria.specs.Systems.{first_system, second_system}
-use Rattle.lex_tableau.specs.Starts.{Parts}
+use Rattle.lex_tableau.specs.Starts.{LinearSystem}
 use Rattle.reply_polytope.specs.Polytopes.{IsRatedSystem, most_labels}
 use Rattle.reply_polytope.specs.Shifts.{payoffs_of, shift_in}
 use Rattle.reply_polytope.specs.Stops.{polytopes_in}
 use Rattle.reply_polytope.specs.declared.stop.PolyStop.{PolyStop}
-use Rattle.reply_polytope.specs.declared.stop.PolyStop.TheVariants as stops
 
 -- the numbers of strategies, the least payoffs and the systems of a game of two players
-pub record ArePolytopesOf (g : Game) (first second : Parts) : Type 0 where
+pub record ArePolytopesOf (g : Game) (first second : LinearSystem) : Type 0 where
   pub m : ℕ
   pub n : ℕ
   pub strategies : g.strategies ≡ m ∷ n ∷ []
@@ -34,7 +33,7 @@ pub record ArePolytopesOf (g : Game) (first second : Parts) : Type 0 where
 shift_is_by_least : (g : Game) (i : ℕ) (least : ℚ) → shift_in g i (Ok least) → IsLeast (payoffs_of g i) least
 shift_is_by_least g i least h = subst (IsLeast (payoffs_of g i)) (sym (single-value {E = PolyStop} (only h.0) least h.0 (only-single h.0) h.2.2 refl)) h.1
 
-pub polytopes_of : (g : Game) (first second : Parts) → polytopes_in g (Ok (first, second)) → ArePolytopesOf g first second
+pub polytopes_of : (g : Game) (first second : LinearSystem) → polytopes_in g (Ok (first, second)) → ArePolytopesOf g first second
 polytopes_of g first second h =
     let one = h.2.2.0 in
     let two = h.2.2.2.0 in
@@ -56,14 +55,3 @@ polytopes_of g first second h =
     few l = let e = ap sum h.2.2.2.2.strategies in omega (arith, e, l)
 
 -- ---- want of memory
-shift_not_memory : (g : Game) (i : ℕ) → shift_in g i (Err stops.Memory) → ⊥
-shift_not_memory g i (inl h) = h
-shift_not_memory g i (inr (least, _, inl (stop, _, e))) = cc
-shift_not_memory g i (inr (least, _, inr (_, _, e))) = single-exclude (only least) least stops.Memory (only-single least) refl e
-
-pub polytopes_not_memory : (g : Game) → polytopes_in g (Err stops.Memory) → ⊥
-polytopes_not_memory g (inl (_, e)) = cc
-polytopes_not_memory g (inr (_, _, inl (limit, _, e))) = cc
-polytopes_not_memory g (inr (_, _, inr (_, _, inl s))) = shift_not_memory g 0 s
-polytopes_not_memory g (inr (_, _, inr (_, _, inr (one, _, inl s)))) = shift_not_memory g 1 s
-polytopes_not_memory g (inr (_, _, inr (_, _, inr (one, _, inr (two, _, h))))) = h

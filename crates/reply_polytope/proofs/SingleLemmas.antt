@@ -14,7 +14,7 @@ use Rattle.game_core.specs.declared.too_large.What.TheVariants as what
 use Rattle.extreme_equilibria.specs.Bimatrix.{shifted, shift_of}
 use Rattle.extreme_equilibria.specs.TwoPlayers.{pays_against}
 use Rattle.extreme_equilibria.specs.Systems.{first_system, second_system}
-use Rattle.lex_tableau.specs.Starts.{Parts, system_of}
+use Rattle.lex_tableau.specs.Starts.{LinearSystem, system_of}
 use Rattle.lex_tableau.proofs.SystemLemmas.{systems_determined}
 use Rattle.reply_polytope.specs.Polytopes.{IsRatedSystem, ArePolytopes, most_labels}
 use Rattle.reply_polytope.specs.Shifts.{least_of, payoffs_of, shift_in, shift_steps, shifts_in}
@@ -34,7 +34,7 @@ module _ (g : Game) where
 
 -- ---- systems
 -- there is one system
-one_system : (s t : Tableau) (a b : Parts) → s ≡ t → IsRatedSystem s a → IsRatedSystem t b → a ≡ b
+one_system : (s t : Tableau) (a b : LinearSystem) → s ≡ t → IsRatedSystem s a → IsRatedSystem t b → a ≡ b
 one_system s t a b same h g =
     let k : IsRatedSystem s b = subst (λ x. IsRatedSystem x b) (sym same) g in
     systems_determined a b h.valid k.valid (alike_trans (system_of a) s (system_of b) (alike_sym s (system_of a) h.alike) k.alike) (h.rated ∙ sym k.rated)
@@ -44,7 +44,7 @@ module _ (g : Game) (least least' : ℚ) where
   sizes_same : (m n k l : ℕ) → g.strategies ≡ m ∷ n ∷ [] → g.strategies ≡ k ∷ l ∷ [] → (m ≡ k) × (n ≡ l)
   sizes_same m n k l p q = let e : m ∷ n ∷ [] ≡ k ∷ l ∷ [] = sym p ∙ q in (cc e, cc e)
 
-  one_pair : (a b c d : Parts) → ArePolytopes g least least' a b → ArePolytopes g least least' c d → (a ≡ c) × (b ≡ d)
+  one_pair : (a b c d : LinearSystem) → ArePolytopes g least least' a b → ArePolytopes g least least' c d → (a ≡ c) × (b ≡ d)
   one_pair a b c d h k =
       let sizes = sizes_same h.m h.n k.m k.n h.strategies k.strategies in
       (one_system _ _ a c (ap₂ (λ m n. first_system m n (shifted (shift_of least') (pays_against g 1))) sizes.0 sizes.1) h.is_first k.is_first, one_system _ _ b d (ap₂ (λ m n. second_system m n (shifted (shift_of least) (pays_against g 0))) sizes.0 sizes.1) h.is_second k.is_second)

@@ -17,7 +17,7 @@ use Rattle.game_core.proofs.TableCountLemmas.{length-strategy_counts}
 use Rattle.extreme_equilibria.specs.TwoPlayers.{pays_against}
 use Rattle.extreme_equilibria.specs.Bimatrix.{shifted, shift_of}
 use Rattle.extreme_equilibria.specs.Systems.{first_system, second_system}
-use Rattle.lex_tableau.specs.Starts.{Parts, system_of}
+use Rattle.lex_tableau.specs.Starts.{LinearSystem, system_of}
 use Rattle.reply_polytope.specs.Polytopes.{IsRatedSystem, ArePolytopes, most_labels}
 use Rattle.reply_polytope.specs.Shapes.{cell_in, shifted_payoffs_in}
 use Rattle.reply_polytope.specs.Stops.{label_count, polytopes_in}
@@ -64,7 +64,7 @@ module _ (t : GameTable) (h : IsTable t) (two : length t.players ≡ 2) (m n : �
   long-is p xs h = ap length (shifted_are (game_of t) p xs h) ∙ length-map-range_with_len (λ k. (game_of t).pays p k +ℚ shift_of h.0) 0 (profile_count (strategy_counts t)) ∙ sym profiles-are
 
   -- both systems
-  systems-are : (xs ys : List ℚ) (ax : shifted_payoffs_in (game_of t) 0 (Ok xs)) (ay : shifted_payoffs_in (game_of t) 1 (Ok ys)) (first second : Parts) → IsRatedSystem (first_system m n (cell_in ys m 1)) first → IsRatedSystem (second_system m n (cell_in xs 1 m)) second → ArePolytopes (game_of t) ax.0 ay.0 first second
+  systems-are : (xs ys : List ℚ) (ax : shifted_payoffs_in (game_of t) 0 (Ok xs)) (ay : shifted_payoffs_in (game_of t) 1 (Ok ys)) (first second : LinearSystem) → IsRatedSystem (first_system m n (cell_in ys m 1)) first → IsRatedSystem (second_system m n (cell_in xs 1 m)) second → ArePolytopes (game_of t) ax.0 ay.0 first second
   systems-are xs ys ax ay first second hf hs =
       record {
         m = m;
@@ -100,7 +100,7 @@ module _ (t : GameTable) (h : IsTable t) (two : length t.players ≡ 2) (m n : �
   labels-are = let e = ap sum strategies-are in omega (arith, e)
 
   -- the labels are too many
-  pub labels-stop : (limit : TooLarge) (r : Result (Parts × Parts) PolyStop) → within what.Labels most_labels (m + n) (Err limit) → IsErrAnd r (λ q. q ≡ stops.TooLarge limit) → Gives stops.Memory (polytopes_in (game_of t)) r
+  pub labels-stop : (limit : TooLarge) (r : Result (LinearSystem × LinearSystem) PolyStop) → within what.Labels most_labels (m + n) (Err limit) → IsErrAnd r (λ q. q ≡ stops.TooLarge limit) → Gives stops.Memory (polytopes_in (game_of t)) r
   labels-stop limit (Ok systems) h e = absurd e
   labels-stop limit (Err q) h e =
       inr (subst (λ s. polytopes_in (game_of t) (Err s)) (sym e) (inr (tt, are-two, inl (limit, subst (λ k. within what.Labels most_labels k (Err limit)) labels-are h, refl))))
@@ -110,19 +110,19 @@ module _ (t : GameTable) (h : IsTable t) (two : length t.players ≡ 2) (m n : �
     are-few = subst (λ k. most_labels < k → ⊥) labels-are few
 
     -- the first player's shift is refused
-    pub first-stop : (stop : PolyStop) (r : Result (Parts × Parts) PolyStop) → Gives stops.Memory (shifted_payoffs_in (game_of t) 0) (Err stop) → IsErrAnd r (λ q. q ≡ stop) → Gives stops.Memory (polytopes_in (game_of t)) r
+    pub first-stop : (stop : PolyStop) (r : Result (LinearSystem × LinearSystem) PolyStop) → Gives stops.Memory (shifted_payoffs_in (game_of t) 0) (Err stop) → IsErrAnd r (λ q. q ≡ stop) → Gives stops.Memory (polytopes_in (game_of t)) r
     first-stop stop (Ok systems) h e = absurd e
     first-stop stop (Err q) (inl memory) e = inl (e ∙ memory)
     first-stop stop (Err q) (inr h) e =
         inr (subst (λ s. polytopes_in (game_of t) (Err s)) (sym e) (inr (tt, are-two, inr (tt, are-few, inl (shift_refused (game_of t) 0 stop h)))))
 
     -- the second player's shift is refused
-    pub second-stop : (xs : List ℚ) → shifted_payoffs_in (game_of t) 0 (Ok xs) → (stop : PolyStop) (r : Result (Parts × Parts) PolyStop) → Gives stops.Memory (shifted_payoffs_in (game_of t) 1) (Err stop) → IsErrAnd r (λ q. q ≡ stop) → Gives stops.Memory (polytopes_in (game_of t)) r
+    pub second-stop : (xs : List ℚ) → shifted_payoffs_in (game_of t) 0 (Ok xs) → (stop : PolyStop) (r : Result (LinearSystem × LinearSystem) PolyStop) → Gives stops.Memory (shifted_payoffs_in (game_of t) 1) (Err stop) → IsErrAnd r (λ q. q ≡ stop) → Gives stops.Memory (polytopes_in (game_of t)) r
     second-stop xs ax stop (Ok systems) h e = absurd e
     second-stop xs ax stop (Err q) (inl memory) e = inl (e ∙ memory)
     second-stop xs ax stop (Err q) (inr h) e =
         inr (subst (λ s. polytopes_in (game_of t) (Err s)) (sym e) (inr (tt, are-two, inr (tt, are-few, inr (ax.0, ax.1, inl (shift_refused (game_of t) 1 stop h))))))
 
-    pub polytopes-are : (xs ys : List ℚ) → shifted_payoffs_in (game_of t) 0 (Ok xs) → shifted_payoffs_in (game_of t) 1 (Ok ys) → (first second : Parts) → IsRatedSystem (first_system m n (cell_in ys m 1)) first → IsRatedSystem (second_system m n (cell_in xs 1 m)) second → polytopes_in (game_of t) (Ok (first, second))
+    pub polytopes-are : (xs ys : List ℚ) → shifted_payoffs_in (game_of t) 0 (Ok xs) → shifted_payoffs_in (game_of t) 1 (Ok ys) → (first second : LinearSystem) → IsRatedSystem (first_system m n (cell_in ys m 1)) first → IsRatedSystem (second_system m n (cell_in xs 1 m)) second → polytopes_in (game_of t) (Ok (first, second))
     polytopes-are xs ys ax ay first second hf hs =
         (tt, are-two, (tt, are-few, (ax.0, ax.1, (ay.0, ay.1, systems-are xs ys ax ay first second hf hs))))

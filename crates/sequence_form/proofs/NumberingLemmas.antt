@@ -1,7 +1,7 @@
 -- The sequences of a player's own sets, by the numbers of the sets.
-use Rattle.std.proofs.Common.{ℕ, zero, suc, ◌+◌, ◌*◌, ◌<◌, ◌≤◌, ◌≡◌, inl, inr, Bool, true, false, Decides, Option, Some, None, List, [], ◌∷◌, ◌++◌, length, map, get_or, slice_get, refl, sym, ap, subst, ◌∙◌, arith}
+use Rattle.std.proofs.Common.{ℕ, zero, suc, ◌+◌, ◌*◌, ◌<◌, ◌≤◌, ◌≡◌, inl, inr, Bool, true, false, Decides, Option, Some, None, List, [], ◌∷◌, ◌++◌, length, map, get_or, slice_get, refl, sym, ap, subst, ◌∙◌, add-one, arith}
 use Rattle.std.specs.Prelude.{if◌then◌else◌}
-use Rattle.std.proofs.lemmas.List.{length_push, map-append}
+use Rattle.std.proofs.lemmas.List.{append-nil, length_push, map-append}
 use Rattle.std.proofs.lemmas.List.FromFn.{get_or-map-range_with_len, length-map-range_with_len}
 use Rattle.std.proofs.lemmas.Option.{none-some, same_Some, slice_get_within, get_or_from_slice_get}
 use Rattle.game_theory.specs.Trees.{Tree, IsTree as is_game_tree}
@@ -9,11 +9,10 @@ use Rattle.game_theory.specs.Behaviour.{is_own}
 use Rattle.game_theory.specs.Recall.{own_history}
 use Rattle.game_core.specs.Tree.{GameTree, IsGameTree}
 use Rattle.game_core.specs.TreeGame.{game_of_tree}
-use Rattle.game_theory.specs.OwnSets.{own_sets}
+use Rattle.game_theory.specs.OwnSets.{own_sets, own_numbers}
 use Rattle.game_theory.proofs.OwnSetLemmas.{is_own-decides}
-use Rattle.strategy_lists.specs.OwnNumbers.{own_numbers}
 use Rattle.strategy_lists.proofs.ActionCountLemmas.{actions-below}
-use Rattle.strategy_lists.proofs.OwnNumberLemmas.{own_numbers-at, own_sets-numbers}
+use Rattle.strategy_lists.proofs.OwnNumberLemmas.{own_numbers-at, own_numbers-next, own_numbers-own, own_numbers-other}
 use Rattle.sequence_forms.specs.Sequences.{last_edge, history_before, sequence, sequence_before, side_of}
 use Rattle.sequence_forms.specs.Sides.{first, sequences}
 use Rattle.sequence_forms.proofs.SequenceLemmas.{history_before-cases, side_of-is}
@@ -27,7 +26,7 @@ use Rattle.sequence_form.specs.Sequences.{next_sequence, own_actions, AreFirsts,
 module _ (t : Tree) (i : ℕ) where
   -- ---- the place of an own set
   own-at : (s : ℕ) → s < t.sets → t.owner s ≡ Some i → slice_get (own_sets t i) (length (own_numbers t.owner i s)) ≡ Some s
-  own-at s below own = ap (λ xs. slice_get xs (length (own_numbers t.owner i s))) (own_sets-numbers t i) ∙ own_numbers-at t.owner i s t.sets below own
+  own-at s below own = own_numbers-at t.owner i s t.sets below own
 
   own-is : (s : ℕ) → s < t.sets → t.owner s ≡ Some i → get_or (own_sets t i) (length (own_numbers t.owner i s)) 0 ≡ s
   own-is s below own = get_or_from_slice_get (own_sets t i) (length (own_numbers t.owner i s)) s 0 (own-at s below own)
@@ -38,17 +37,13 @@ module _ (t : Tree) (i : ℕ) where
   -- ---- the next sequence
   -- with one more set
   pub next-more : (n : ℕ) → n < t.sets → next_sequence t i (suc n) ≡ next_sequence t i n + own_actions t i n
-  next-more n below = go (is_own t i n) (is_own-decides t i n)
+  next-more n below = ap (λ xs. first (side_of t i) (length xs)) (own_numbers-next t.owner i n) ∙ go (is_own t i n) (is_own-decides t i n)
     where
-      go : (b : Bool) → Decides b (t.owner n ≡ Some i) → first (side_of t i) (length (if b then own_numbers t.owner i n ++ n ∷ [] else own_numbers t.owner i n)) ≡ next_sequence t i n + (if b then t.actions n else 0)
+      go : (b : Bool) → Decides b (t.owner n ≡ Some i) → first (side_of t i) (length (own_numbers t.owner i n ++ (if b then n ∷ [] else []))) ≡ next_sequence t i n + (if b then t.actions n else 0)
       go true d =
           let long : length (own_numbers t.owner i n ++ n ∷ []) ≡ suc (length (own_numbers t.owner i n)) = length_push (own_numbers t.owner i n) n ∙ omega arith in
           ap (first (side_of t i)) long ∙ ap (λ s. next_sequence t i n + t.actions s) (own-is n below (d.0 refl))
-      go false d = omega arith
-
-  -- after all sets
-  pub next-all : next_sequence t i t.sets ≡ sequences (side_of t i)
-  next-all = ap (λ xs. first (side_of t i) (length xs)) (sym (own_sets-numbers t i))
+      go false d = ap (λ xs. first (side_of t i) (length xs)) (append-nil (own_numbers t.owner i n)) ∙ omega arith
 
   -- the sequence of an own set's action
   pub sequence-is : (s a : ℕ) → is_game_tree t → s < t.sets → t.owner s ≡ Some i → sequence t i (Some (s, a)) ≡ next_sequence t i s + a
@@ -89,17 +84,24 @@ module _ (t : Tree) (i : ℕ) where
   pub next-push : (n : ℕ) → n < t.sets → next_sequence t i (n + 1) ≡ next_sequence t i n + own_actions t i n
   next-push n below = let one : n + 1 ≡ suc n = omega arith in ap (next_sequence t i) one ∙ next-more n below
 
+  -- the own sets with one more
+  own-next : (n : ℕ) → is_own t i n ≡ true → own_numbers t.owner i (n + 1) ≡ own_numbers t.owner i n ++ n ∷ []
+  own-next n own = ap (own_numbers t.owner i) (add-one n) ∙ own_numbers-own t.owner i n ((is_own-decides t i n).0 own)
+
+  other-next : (n : ℕ) → is_own t i n ≡ false → own_numbers t.owner i (n + 1) ≡ own_numbers t.owner i n
+  other-next n other = ap (own_numbers t.owner i) (add-one n) ∙ own_numbers-other t.owner i n (λ own. cc ((is_own-decides t i n).1 own, other))
+
   pub rows-own : (n : ℕ) → is_own t i n ≡ true → map (own_set_row t i) (own_numbers t.owner i (n + 1)) ≡ map (own_set_row t i) (own_numbers t.owner i n) ++ own_set_row t i n ∷ []
-  rows-own n own = let one : n + 1 ≡ suc n = omega arith in ap (λ m. map (own_set_row t i) (own_numbers t.owner i m)) one ∙ rw own (map-append (own_set_row t i) (own_numbers t.owner i n) (n ∷ []))
+  rows-own n own = ap (map (own_set_row t i)) (own-next n own) ∙ map-append (own_set_row t i) (own_numbers t.owner i n) (n ∷ [])
 
   pub rows-other : (n : ℕ) → is_own t i n ≡ false → map (own_set_row t i) (own_numbers t.owner i (n + 1)) ≡ map (own_set_row t i) (own_numbers t.owner i n)
-  rows-other n other = let one : n + 1 ≡ suc n = omega arith in ap (λ m. map (own_set_row t i) (own_numbers t.owner i m)) one ∙ rw other refl
+  rows-other n other = ap (map (own_set_row t i)) (other-next n other)
 
   pub count-own : (n : ℕ) → is_own t i n ≡ true → length (own_numbers t.owner i (n + 1)) ≡ length (own_numbers t.owner i n) + 1
-  count-own n own = let one : n + 1 ≡ suc n = omega arith in ap (λ m. length (own_numbers t.owner i m)) one ∙ rw own (length_push (own_numbers t.owner i n) n)
+  count-own n own = ap length (own-next n own) ∙ length_push (own_numbers t.owner i n) n
 
   pub count-other : (n : ℕ) → is_own t i n ≡ false → length (own_numbers t.owner i (n + 1)) ≡ length (own_numbers t.owner i n)
-  count-other n other = let one : n + 1 ≡ suc n = omega arith in ap (λ m. length (own_numbers t.owner i m)) one ∙ rw other refl
+  count-other n other = ap length (other-next n other)
 
 -- ---- they fit 32 bits
 pub actions-few : (t : GameTree) (i s : ℕ) → IsGameTree t → s < length t.sets → own_actions (game_of_tree t) i s < 65536
@@ -119,7 +121,7 @@ pub next-few : (t : GameTree) (i n : ℕ) → IsGameTree t → n ≤ length t.se
 next-few t i n valid few = omega (arith, next-below t i n valid few, valid.few_sets, valid.few_nodes)
 
 pub sequences-few : (t : GameTree) (i : ℕ) → IsGameTree t → sequences (side_of (game_of_tree t) i) < 4294967296
-sequences-few t i valid = subst (λ n. n < 4294967296) (next-all (game_of_tree t) i) (next-few t i (length t.sets) valid (omega arith))
+sequences-few t i valid = next-few t i (length t.sets) valid (omega arith)
 
 -- ---- the sequence before an own set as it is computed
 pub before-none : (t : Tree) (i s : ℕ) → last_edge (history_before t i s) ≡ None → sequence_before t i s ≡ 0

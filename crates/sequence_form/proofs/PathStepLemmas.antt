@@ -1,11 +1,12 @@
 -- The paths of a tree, node by node: steps, values and leaves.
-use Rattle.std.proofs.Common.{ℕ, zero, suc, ◌+◌, ◌<◌, ◌≤◌, ◌≡◌, true, false, Option, Some, None, List, [], ◌∷◌, ◌++◌, length, map, take, get_or, All, Result, Ok, Err, refl, sym, ap, ap₂, subst, ◌∙◌, append_assoc, arith}
+use Rattle.std.proofs.Common.{ℕ, zero, suc, ◌+◌, ◌<◌, ◌≤◌, ◌≡◌, true, false, Option, Some, None, List, [], ◌∷◌, ◌++◌, length, map, take, get_or, All, Result, Ok, Err, refl, sym, ap, ap₂, subst, ◌∙◌, add-one, zero-add, arith}
 use Rattle.std.specs.List.{range_with_len}
-use Rattle.std.specs.Option.{is_some}
-use Rattle.std.proofs.lemmas.List.{map-append, length_push, take_all}
-use Rattle.std.proofs.lemmas.List.Elements.{All-nil, All-cons, All-map}
+use Rattle.std.specs.Prelude.{cond, filter, is_none, is_some}
+use Rattle.std.proofs.lemmas.List.{append-nil, map-append, length_push, take_all}
+use Rattle.std.proofs.lemmas.List.Elements.{All-nil, All-map, All-filter, filter-append}
 use Rattle.std.proofs.lemmas.List.FromFn.{get_or-range_with_len, length-range_with_len}
 use Rattle.std.proofs.lemmas.Option.{none-some, same_Some}
+use Rattle.lists.proofs.ElementLemmas.{range-last}
 use Rattle.rational.specs.Rational.{ℚ, ◌+ℚ◌}
 use Rattle.frac128.specs.FirstUnfit.{StepsFit}
 use Rattle.frac128.specs.Steps.{unfit, Step, StepFits, IsFirstUnfit}
@@ -13,7 +14,7 @@ use Rattle.frac128.specs.declared.steps.Op.TheVariants.{Add, Mul}
 use Rattle.frac128.proofs.FirstUnfitLemmas.{fits_next, first_unfit_here}
 use Rattle.game_theory.specs.Trees.{Tree, IsTree}
 use Rattle.sequence_forms.specs.Forms.{chance_of_path, payoff_of_path}
-use Rattle.sequence_forms.specs.Lists.{leaf_first, leaves_below, leaves}
+use Rattle.sequence_forms.specs.Lists.{leaves}
 use Rattle.sequence_forms.specs.Sequences.{side_of}
 use Rattle.sequence_forms.specs.Sides.{sequences}
 use Rattle.sequence_forms.proofs.SequenceLemmas.{last-below}
@@ -114,42 +115,37 @@ module _ (t : Tree) where
   path-all n l fit = subst (All (StepsFit (node_steps t))) (take_all n nodes (omega (arith, l, length-range_with_len 0 t.size))) fit
 
 -- ---- the leaves
--- the leaves below n, and then others
-leaves_below-append : (t : Tree) (n : ℕ) (later : List ℕ) → leaves_below t n later ≡ leaves_below t n [] ++ later
-leaves_below-append t zero later = refl
-leaves_below-append t (suc n) later = go (t.set n) (leaves_below-append t n)
-  where
-    go : (o : Option ℕ) → ((later : List ℕ) → leaves_below t n later ≡ leaves_below t n [] ++ later) → leaves_below t n (leaf_first o n later) ≡ leaves_below t n (leaf_first o n []) ++ later
-    go None h = h (n ∷ later) ∙ sym (append_assoc (leaves_below t n []) (n ∷ []) later) ∙ ap (λ xs. xs ++ later) (sym (h (n ∷ [])))
-    go (Some s) h = h later
+-- the leaves below n
+abbrev pub first_leaves : Tree → ℕ → List ℕ
+first_leaves t n = filter (λ k. is_none (t.set k)) (range_with_len 0 n)
+
+-- with one more node
+leaves-next : (t : Tree) (n : ℕ) (o : Option ℕ) → o ≡ t.set n → first_leaves t (suc n) ≡ first_leaves t n ++ cond (is_none o) (n ∷ []) []
+leaves-next t n o is =
+    ap (filter (λ k. is_none (t.set k))) (range-last n) ∙ filter-append (λ k. is_none (t.set k)) (range_with_len 0 n) (n ∷ [])
+    ∙ ap (λ x. first_leaves t n ++ cond (is_none x) (n ∷ []) []) (sym is)
 
 -- with one more leaf
-leaves-leaf : (t : Tree) (n : ℕ) → t.set n ≡ None → map (leaf_at t) (leaves_below t (suc n) []) ≡ map (leaf_at t) (leaves_below t n []) ++ leaf_at t n ∷ []
-leaves-leaf t n none = rw none (ap (map (leaf_at t)) (leaves_below-append t n (n ∷ [])) ∙ map-append (leaf_at t) (leaves_below t n []) (n ∷ []))
+leaves-leaf : (t : Tree) (n : ℕ) → t.set n ≡ None → map (leaf_at t) (first_leaves t (suc n)) ≡ map (leaf_at t) (first_leaves t n) ++ leaf_at t n ∷ []
+leaves-leaf t n none = ap (map (leaf_at t)) (leaves-next t n None (sym none)) ∙ map-append (leaf_at t) (first_leaves t n) (n ∷ [])
 
-pub leaves-more : (t : Tree) (n : ℕ) (o : Option ℕ) → o ≡ t.set n → is_some o ≡ false → map (leaf_at t) (leaves_below t (n + 1) []) ≡ map (leaf_at t) (leaves_below t n []) ++ leaf_at t n ∷ []
-leaves-more t n None is h = let one : n + 1 ≡ suc n = omega arith in ap (λ m. map (leaf_at t) (leaves_below t m [])) one ∙ leaves-leaf t n (sym is)
+pub leaves-more : (t : Tree) (n : ℕ) (o : Option ℕ) → o ≡ t.set n → is_some o ≡ false → map (leaf_at t) (first_leaves t (n + 1)) ≡ map (leaf_at t) (first_leaves t n) ++ leaf_at t n ∷ []
+leaves-more t n None is h = ap (λ m. map (leaf_at t) (first_leaves t m)) (add-one n) ∙ leaves-leaf t n (sym is)
 leaves-more t n (Some s) is h = cc
 
 -- with a node that is none
-pub leaves-same : (t : Tree) (n : ℕ) (o : Option ℕ) → o ≡ t.set n → is_some o ≡ true → map (leaf_at t) (leaves_below t (n + 1) []) ≡ map (leaf_at t) (leaves_below t n [])
+pub leaves-same : (t : Tree) (n : ℕ) (o : Option ℕ) → o ≡ t.set n → is_some o ≡ true → map (leaf_at t) (first_leaves t (n + 1)) ≡ map (leaf_at t) (first_leaves t n)
 leaves-same t n None is h = cc
-leaves-same t n (Some s) is h = let one : n + 1 ≡ suc n = omega arith in ap (λ m. map (leaf_at t) (leaves_below t m [])) one ∙ rw (sym is) refl
-
--- what holds of each node holds of each leaf
-all-leaves : (t : Tree) (P : ℕ → Type 0) (n : ℕ) (later : List ℕ) → ((k : ℕ) → k < n → P k) → All P later → All P (leaves_below t n later)
-all-leaves t P zero later h rest = rest
-all-leaves t P (suc n) later h rest = all-leaves t P n (leaf_first (t.set n) n later) (λ k l. h k (omega arith)) (go (t.set n))
-  where
-    go : (o : Option ℕ) → All P (leaf_first o n later)
-    go None = All-cons P n later (h n (omega arith)) rest
-    go (Some s) = rest
+leaves-same t n (Some s) is h = ap (map (leaf_at t)) (ap (first_leaves t) (add-one n) ∙ leaves-next t n (Some s) is ∙ append-nil (first_leaves t n))
 
 -- the leaves fit the form
 pub leaves-fit : (t : Tree) → IsTree t → All (LeafFits (sequences (side_of t 0)) (sequences (side_of t 1))) (tree_leaves t)
-leaves-fit t w = All-map (LeafFits (sequences (side_of t 0)) (sequences (side_of t 1))) (leaf_at t) (leaves t) (all-leaves t (λ k. LeafFits (sequences (side_of t 0)) (sequences (side_of t 1)) (leaf_at t k)) t.size [] fits (All-nil (λ k. LeafFits (sequences (side_of t 0)) (sequences (side_of t 1)) (leaf_at t k))))
+leaves-fit t w = All-map (LeafFits (sequences (side_of t 0)) (sequences (side_of t 1))) (leaf_at t) (leaves t) (All-filter (λ k. is_none (t.set k)) Fits (range_with_len 0 t.size) (λ j d l. let within : j < t.size = omega (arith, l, length-range_with_len 0 t.size) in subst Fits (sym (get_or-range_with_len 0 t.size j d within ∙ zero-add j)) (fits j within)))
   where
-    fits : (k : ℕ) → k < t.size → LeafFits (sequences (side_of t 0)) (sequences (side_of t 1)) (leaf_at t k)
+    Fits : ℕ → Type 0
+    Fits k = LeafFits (sequences (side_of t 0)) (sequences (side_of t 1)) (leaf_at t k)
+
+    fits : (k : ℕ) → k < t.size → Fits k
     fits k l = record { not_negative = chance-not_negative t w k l; row_within = last-below t 0 w k l; column_within = last-below t 1 w k l }
 
 -- the last node is a leaf
@@ -168,8 +164,8 @@ last-leaf t w n is = go (t.set n) refl
 pub some-leaf : (t : Tree) → IsTree t → 0 < length (tree_leaves t)
 some-leaf t w = go t.size refl w.some_node
   where
-    go : (n : ℕ) → t.size ≡ n → 0 < n → 0 < length (map (leaf_at t) (leaves_below t n []))
+    go : (n : ℕ) → t.size ≡ n → 0 < n → 0 < length (map (leaf_at t) (first_leaves t n))
     go zero is some = absurd (omega arith)
     go (suc n) is some =
         let push = leaves-leaf t n (last-leaf t w n is) in
-        omega (arith, ap length push, length_push (map (leaf_at t) (leaves_below t n [])) (leaf_at t n))
+        omega (arith, ap length push, length_push (map (leaf_at t) (first_leaves t n)) (leaf_at t n))

@@ -3,10 +3,9 @@ use Rattle.std.specs.Prelude.{ℕ, suc, if◌then◌else◌, List, length, map, 
 use Rattle.std.specs.List.{range_with_len}
 use Rattle.game_theory.specs.Trees.{Tree}
 use Rattle.game_theory.specs.Behaviour.{is_own}
-use Rattle.game_theory.specs.OwnSets.{own_sets}
+use Rattle.game_theory.specs.OwnSets.{own_sets, own_numbers}
 use Rattle.sequence_forms.specs.Sequences.{sequence, sequence_before, side_of}
 use Rattle.sequence_forms.specs.Sides.{first, sequences}
-use Rattle.strategy_lists.specs.OwnNumbers.{own_numbers}
 use Rattle.sequence_data.specs.Data.{SideData}
 use Rattle.sequence_data.specs.declared.types.SetRow.{SetRow}
 

@@ -10,8 +10,8 @@ ghost use Rattle.sequence_form.specs.Counts.{AreFew, counts_of, problem_rows, si
 ghost use Rattle.sequence_form.specs.Forms.{IsTableForm, IsTreeForm};
 ghost use Rattle.sequence_form.specs.Sequences.{start_side, tree_side};
 
-use crate::sequences::{is_own, own_actions};
-use game_core::tree_parts::stands_for_game_tree;
+use crate::sequences::own_actions;
+use game_core::tree_parts::{is_own, stands_for_game_tree};
 use game_core::{Table, Tree};
 
 /// The sizes of a sequence form: of both players the numbers of sequences, the empty one included, and of own

@@ -1,6 +1,5 @@
 // The sequences of a player of a tree, and the player's side.
 ghost use Rattle.std.specs.Prelude.{◌≡◌, ◌<◌, Some, length, IfOk};
-ghost use Rattle.game_theory.specs.Behaviour.{is_own};
 ghost use Rattle.game_core.specs.TreeGame.{game_of_tree};
 ghost use Rattle.perfect_recall.specs.Found.{IsRecallOf};
 ghost use Rattle.sequence_forms.specs.Sequences.{sequence_before};
@@ -8,21 +7,10 @@ ghost use Rattle.sequence_form.specs.Sequences.{AreFirsts, own_actions, own_set_
 
 use answers::Memory;
 use game_core::Tree;
-use game_core::tree_parts::{action_count, owner, stands_for_game_tree};
+use game_core::tree_parts::{action_count, is_own, stands_for_game_tree};
 use perfect_recall::Recall;
 use sequence_data::{SetRow, Side};
 use std::alloc::Global;
-
-// Whether a player owns a set.
-pub(crate) fn is_own(tree: &Tree, set: usize, player: u32) -> bool
-    requires { set < length tree.now.sets }
-    ensures { result ≡ is_own (game_of_tree tree.now) player set }
-{
-    match owner(tree, set) {
-        Some(own) => own == player,
-        None => false,
-    }
-}
 
 // How many sequences a set gives a player: one for each action where the player owns it, and else none.
 pub(crate) fn own_actions(tree: &Tree, set: usize, player: u32) -> u32

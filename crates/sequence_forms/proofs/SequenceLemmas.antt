@@ -121,7 +121,7 @@ history_before-cases t i s (suc n) = go (is_index (t.set n) s) (is_index-decides
 -- under perfect recall it is that of each of its nodes
 pub history_before-is : (t : Tree) (i s k : ℕ) → HasPerfectRecall t i → t.owner s ≡ Some i → k < t.size → t.set k ≡ Some s → history_before t i s ≡ own_history t i k
 history_before-is t i s k r o l e = elim (history_before-cases t i s t.size) [
-  | inl h ↦ h.3 ∙ r s h.0 k o h.1 l h.2 e
+  | inl h ↦ h.3 ∙ r s o h.0 k h.1 l h.2 e
   | inr h ↦ absurd (h.1 k l e)
 ]
 

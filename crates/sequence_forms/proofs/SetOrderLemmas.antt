@@ -94,7 +94,7 @@ last-before t i w r f (suc n) k s h l q e = elim (last_choice t i w k l) [
     later : ((j : ℕ) → j < n → j < t.size → t.set j ≡ Some s → last_sequence t i j < first_after (action_count t i) (place_in (own_sets t i) s)) → (o : LastChoice t i k) → s ≤ o.set → last_sequence t i k < first_after (action_count t i) (place_in (own_sets t i) s)
     later earlier o m =
         let a = above o m in
-        subst (λ h. sequence t i (last_edge h) < first_after (action_count t i) (place_in (own_sets t i) s)) (r s a.0 k e (omega (arith, a.1)) l a.2 q) (earlier a.0 (omega (arith, a.1)) (omega (arith, a.1)) a.2)
+        subst (λ h. sequence t i (last_edge h) < first_after (action_count t i) (place_in (own_sets t i) s)) (r s e a.0 k (omega (arith, a.1)) l a.2 q) (earlier a.0 (omega (arith, a.1)) (omega (arith, a.1)) a.2)
 
 -- the place of the set that stands at a place
 pub place_at : (n : ℕ) (sets : List ℕ) (j : ℕ) → AscendFrom n sets → j < length sets → place_in sets (slice_index sets j) ≡ j

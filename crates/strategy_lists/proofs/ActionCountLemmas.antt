@@ -8,10 +8,10 @@ use Rattle.std.proofs.lemmas.Option.{none-some, slice_get_within, slice_get-get_
 use Rattle.game_theory.proofs.OwnSetLemmas.{is_index-decides}
 use Rattle.game_core.specs.declared.tree.Node.{Node}
 use Rattle.game_theory.specs.Behaviour.{is_index}
-use Rattle.game_core.specs.Tree.{GameTree, IsGameTree, InformationSet, OpenBranch, AreInPrefixOrder, action_count, branches_after, members_from, own_sets}
+use Rattle.game_theory.specs.OwnSets.{own_sets}
+use Rattle.game_core.specs.Tree.{GameTree, IsGameTree, InformationSet, OpenBranch, AreInPrefixOrder, action_count, branches_after, members_from}
 use Rattle.game_core.specs.TreeGame.{game_of_tree}
-use Rattle.strategy_lists.proofs.OwnNumberLemmas.{own_from-own_sets, own_sets-numbers, own_numbers-length}
-use Rattle.strategy_lists.proofs.ReducedListLemmas.{own_set-tell}
+use Rattle.strategy_lists.proofs.OwnNumberLemmas.{own_numbers-length}
 
 -- a node has a place for each action
 length-places : (node a n : ℕ) → length (branches_after (Some node) a n) ≡ n
@@ -56,15 +56,9 @@ actions-below t s valid below =
 pub actions-fit : (t : GameTree) (s : ℕ) (set : InformationSet) → IsGameTree t → s < length t.sets → set ≡ get_or t.sets s set → length set.actions < 2 ^ 32
 actions-fit t s set valid below is = omega (arith, actions-below t s valid below, actions-at t s set below is, valid.few_nodes)
 
--- a set of the tree's lists that is one of the player's own is one of the sets
-pub own_set-within : (t : GameTree) (i place s : ℕ) → slice_get (own_sets t i) place ≡ Some s → s < length t.sets
-own_set-within t i place s h = (own_set-tell (game_of_tree t) i place s (ap (λ xs. slice_get xs place) (sym (own_from-own_sets t i)) ∙ h)).0
-
 -- a player has fewer own sets than a place can count
-pub own_sets-few : (t : GameTree) (i : ℕ) → IsGameTree t → length (own_sets t i) < 2 ^ 32
-own_sets-few t i valid =
-    let short = own_numbers-length (game_of_tree t).owner i (length t.sets) in
-    omega (arith, ap length (own_from-own_sets t i), ap length (own_sets-numbers (game_of_tree t) i), short, valid.few_sets, valid.few_nodes)
+pub own_sets-few : (t : GameTree) (i : ℕ) → IsGameTree t → length (own_sets (game_of_tree t) i) < 2 ^ 32
+own_sets-few t i valid = omega (arith, own_numbers-length (game_of_tree t).owner i (length t.sets), valid.few_sets, valid.few_nodes)
 
 -- the numbers of actions with one more set, and of all sets
 module _ (actions : ℕ → ℕ) (sets counts : List ℕ) (h : counts ≡ map actions (take (length counts) sets)) where

@@ -1,22 +1,22 @@
 -- Numbers that are a player's own, and the place of each of them.
-use Rattle.std.proofs.Common.{ℕ, zero, suc, ◌+◌, ◌^◌, eqb, ◌<◌, ◌≤◌, ◌≡◌, ◌⊎◌, inl, inr, Bool, true, false, Decides, Option, Some, None, List, [], ◌∷◌, ◌++◌, length, map, get_or, slice_get, All, refl, sym, ap, subst, ◌∙◌, arith}
+use Rattle.std.proofs.Common.{ℕ, zero, suc, ◌+◌, ◌^◌, eqb, ◌<◌, ◌≤◌, ◌≡◌, ◌⊎◌, inl, inr, Bool, true, false, cond, Decides, Option, Some, None, List, [], ◌∷◌, ◌++◌, length, map, get_or, slice_get, All, refl, sym, ap, subst, ◌∙◌, arith}
 use Rattle.std.specs.Option.{option_eq}
-use Rattle.std.specs.Prelude.{◌==◌, if◌then◌else◌, IfSome, slice_index}
+use Rattle.std.specs.Prelude.{◌==◌, IfSome, slice_index, filter}
+use Rattle.std.specs.List.{range_with_len}
 use Rattle.std.proofs.lemmas.Bool.Decides.{Decides-eqb, Decides-like}
-use Rattle.std.proofs.Math.Nat.{add-zero}
 use Rattle.std.proofs.lemmas.Bool.{cases_lt, cases_eq, false_from_ne_true}
-use Rattle.std.proofs.lemmas.List.{append-nil, append_assoc, length_push, length-map, length-set, get_or-set_same, get_or-set_other, get_or_append_left, get_or_push}
-use Rattle.std.proofs.lemmas.List.Elements.{All-map}
+use Rattle.std.proofs.lemmas.List.{append-nil, length_push, length-map, length-set, get_or-set_same, get_or-set_other, get_or_append_left, get_or_push}
+use Rattle.std.proofs.lemmas.List.Elements.{All-map, filter-append}
 use Rattle.std.proofs.lemmas.Option.{none-some, same_Some, slice_get-get_or}
-use Rattle.game_theory.specs.OwnSets.{own_below, own_sets}
 use Rattle.game_theory.proofs.OwnSetLemmas.{is_index-decides}
-use Rattle.lists.proofs.ElementLemmas.{slice_get-end}
+use Rattle.lists.proofs.ElementLemmas.{slice_get-end, range-last}
 use Rattle.game_theory.specs.Trees.{Tree}
 use Rattle.game_theory.specs.Behaviour.{is_index}
-use Rattle.game_core.specs.Tree.{GameTree, IsGameTree, InformationSet, IsBelow, own_from}
+use Rattle.game_core.specs.Tree.{GameTree, IsGameTree, IsBelow}
 use Rattle.game_core.specs.TreeGame.{game_of_tree}
 use Rattle.reduced_strategies.specs.Places.{ArePlaces}
-use Rattle.strategy_lists.specs.OwnNumbers.{own_numbers, counted, ArePlacesBelow}
+use Rattle.game_theory.specs.OwnSets.{own_numbers}
+use Rattle.strategy_lists.specs.OwnNumbers.{counted, ArePlacesBelow}
 
 -- so many of each player's own numbers are below n
 abbrev pub AreCounts : (ℕ → Option ℕ) → ℕ → List ℕ → Type 0
@@ -39,31 +39,40 @@ slice_get-push_cases (z ∷ xs) y x (suc j) h =
 
 -- ---- own numbers
 module _ (owner : ℕ → Option ℕ) (i : ℕ) where
+  -- one more number comes last where it is own
+  pub own_numbers-next : (n : ℕ) → own_numbers owner i (suc n) ≡ own_numbers owner i n ++ cond (is_index (owner n) i) (n ∷ []) []
+  own_numbers-next n = ap (filter owns) (range-last n) ∙ filter-append owns (range_with_len 0 n) (n ∷ [])
+    where
+      owns : ℕ → Bool
+      owns k = is_index (owner k) i
+
   -- an own number comes last
   pub own_numbers-own : (n : ℕ) → owner n ≡ Some i → own_numbers owner i (suc n) ≡ own_numbers owner i n ++ n ∷ []
-  own_numbers-own n own = rw ((is_index-decides (owner n) i).1 own) refl
+  own_numbers-own n own = own_numbers-next n ∙ ap (λ b. own_numbers owner i n ++ cond b (n ∷ []) []) ((is_index-decides (owner n) i).1 own)
 
   -- another number is left out
   pub own_numbers-other : (n : ℕ) → (owner n ≡ Some i → ⊥) → own_numbers owner i (suc n) ≡ own_numbers owner i n
-  own_numbers-other n other = rw (false_from_ne_true (is_index (owner n) i) (λ e. other ((is_index-decides (owner n) i).0 e))) refl
+  own_numbers-other n other =
+      own_numbers-next n ∙ ap (λ b. own_numbers owner i n ++ cond b (n ∷ []) []) (false_from_ne_true (is_index (owner n) i) (λ e. other ((is_index-decides (owner n) i).0 e)))
+      ∙ append-nil (own_numbers owner i n)
 
   -- there are no more than the numbers below n
   pub own_numbers-length : (n : ℕ) → length (own_numbers owner i n) ≤ n
   own_numbers-length zero = omega arith
-  own_numbers-length (suc n) = go (is_index (owner n) i) (own_numbers-length n)
+  own_numbers-length (suc n) = go (is_index (owner n) i) (own_numbers-next n) (own_numbers-length n)
     where
-      go : (b : Bool) → length (own_numbers owner i n) ≤ n → length (if b then own_numbers owner i n ++ n ∷ [] else own_numbers owner i n) ≤ suc n
-      go true h = rw length_push (omega arith)
-      go false h = omega arith
+      go : (b : Bool) → own_numbers owner i (suc n) ≡ own_numbers owner i n ++ cond b (n ∷ []) [] → length (own_numbers owner i n) ≤ n → length (own_numbers owner i (suc n)) ≤ suc n
+      go true is h = omega (arith, ap length is, length_push (own_numbers owner i n) n)
+      go false is h = omega (arith, ap length (is ∙ append-nil (own_numbers owner i n)))
 
   -- an own number has as many before it as are below it
   pub own_numbers-at : (k n : ℕ) → k < n → owner k ≡ Some i → slice_get (own_numbers owner i n) (length (own_numbers owner i k)) ≡ Some k
   own_numbers-at k zero below own = absurd (omega arith)
-  own_numbers-at k (suc n) below own = elim (cases_lt k n) [ inl early ↦ go (is_index (owner n) i) (own_numbers-at k n early own) | inr last ↦ at_last (omega arith) ]
+  own_numbers-at k (suc n) below own = elim (cases_lt k n) [ inl early ↦ go (is_index (owner n) i) (own_numbers-next n) (own_numbers-at k n early own) | inr last ↦ at_last (omega arith) ]
     where
-      go : (b : Bool) → slice_get (own_numbers owner i n) (length (own_numbers owner i k)) ≡ Some k → slice_get (if b then own_numbers owner i n ++ n ∷ [] else own_numbers owner i n) (length (own_numbers owner i k)) ≡ Some k
-      go true h = slice_get-push (own_numbers owner i n) n k _ h
-      go false h = h
+      go : (b : Bool) → own_numbers owner i (suc n) ≡ own_numbers owner i n ++ cond b (n ∷ []) [] → slice_get (own_numbers owner i n) (length (own_numbers owner i k)) ≡ Some k → slice_get (own_numbers owner i (suc n)) (length (own_numbers owner i k)) ≡ Some k
+      go true is h = ap (λ xs. slice_get xs (length (own_numbers owner i k))) is ∙ slice_get-push (own_numbers owner i n) n k _ h
+      go false is h = ap (λ xs. slice_get xs (length (own_numbers owner i k))) (is ∙ append-nil (own_numbers owner i n)) ∙ h
 
       at_last : k ≡ n → slice_get (own_numbers owner i (suc n)) (length (own_numbers owner i k)) ≡ Some k
       at_last same = rw (own_numbers-own n (subst (λ x. owner x ≡ Some i) same own), same) (slice_get-end (own_numbers owner i n) n)
@@ -71,52 +80,18 @@ module _ (owner : ℕ → Option ℕ) (i : ℕ) where
   -- what stands at a place is an own number, and has so many before it
   pub own_numbers-tell : (n j k : ℕ) → slice_get (own_numbers owner i n) j ≡ Some k → (k < n) × (owner k ≡ Some i) × (j ≡ length (own_numbers owner i k))
   own_numbers-tell zero j k h = absurd (none-some k h)
-  own_numbers-tell (suc n) j k h = go (is_index (owner n) i) (is_index-decides (owner n) i) (own_numbers-tell n j k) h
+  own_numbers-tell (suc n) j k h = go (is_index (owner n) i) (is_index-decides (owner n) i) (own_numbers-tell n j k) (ap (λ xs. slice_get xs j) (sym (own_numbers-next n)) ∙ h)
     where
-      go : (b : Bool) → Decides b (owner n ≡ Some i) → (slice_get (own_numbers owner i n) j ≡ Some k → (k < n) × (owner k ≡ Some i) × (j ≡ length (own_numbers owner i k))) → slice_get (if b then own_numbers owner i n ++ n ∷ [] else own_numbers owner i n) j ≡ Some k → (k < suc n) × (owner k ≡ Some i) × (j ≡ length (own_numbers owner i k))
+      go : (b : Bool) → Decides b (owner n ≡ Some i) → (slice_get (own_numbers owner i n) j ≡ Some k → (k < n) × (owner k ≡ Some i) × (j ≡ length (own_numbers owner i k))) → slice_get (own_numbers owner i n ++ cond b (n ∷ []) []) j ≡ Some k → (k < suc n) × (owner k ≡ Some i) × (j ≡ length (own_numbers owner i k))
       go true d early h = elim (slice_get-push_cases (own_numbers owner i n) n k j h) [
         | inl before ↦ let r = early before in (omega (arith, r.0), r.1, r.2)
         | inr last ↦ (omega (arith, last.1), subst (λ x. owner x ≡ Some i) last.1 (d.0 refl), last.0 ∙ ap (λ x. length (own_numbers owner i x)) last.1)
       ]
-      go false d early h = let r = early h in (omega (arith, r.0), r.1, r.2)
+      go false d early h = let r = early (ap (λ xs. slice_get xs j) (sym (append-nil (own_numbers owner i n))) ∙ h) in (omega (arith, r.0), r.1, r.2)
 
   -- a number stands at one place
   pub own_numbers-place : (n j l k : ℕ) → slice_get (own_numbers owner i n) j ≡ Some k → slice_get (own_numbers owner i n) l ≡ Some k → j ≡ l
   own_numbers-place n j l k h g = (own_numbers-tell n j k h).2 ∙ sym (own_numbers-tell n l k g).2
-
--- ---- own sets
--- the own sets below n are the own numbers below n
-own_below-numbers : (t : Tree) (i n : ℕ) (later : List ℕ) → own_below t i n later ≡ own_numbers t.owner i n ++ later
-own_below-numbers t i zero later = refl
-own_below-numbers t i (suc n) later = go (is_index (t.owner n) i) (own_below-numbers t i n)
-  where
-    go : (b : Bool) → ((later : List ℕ) → own_below t i n later ≡ own_numbers t.owner i n ++ later) → own_below t i n (if b then n ∷ later else later) ≡ (if b then own_numbers t.owner i n ++ n ∷ [] else own_numbers t.owner i n) ++ later
-    go true h = h (n ∷ later) ∙ sym (append_assoc (own_numbers t.owner i n) (n ∷ []) later)
-    go false h = h later
-
--- the own sets are the own numbers below the number of sets
-pub own_sets-numbers : (t : Tree) (i : ℕ) → own_sets t i ≡ own_numbers t.owner i t.sets
-own_sets-numbers t i = own_below-numbers t i t.sets [] ∙ append-nil _
-
--- the own sets of a list after those before it
-own_from-numbers : (owner : ℕ → Option ℕ) (i s : ℕ) (sets : List InformationSet) → ((k : ℕ) → owner (s + k) ≡ get_or (map (λ set. set.owner) sets) k None) → own_numbers owner i (s + length sets) ≡ own_numbers owner i s ++ own_from s i sets
-own_from-numbers owner i s [] h = rw add-zero (sym (append-nil _))
-own_from-numbers owner i s (x ∷ sets) h =
-    let later = own_from-numbers owner i (suc s) sets (λ k. ap owner (omega arith) ∙ h (suc k)) in
-    let first : owner s ≡ x.owner = ap owner (sym (add-zero s)) ∙ h 0 in
-    ap (own_numbers owner i) (omega arith) ∙ later ∙ go (is_index (owner s) i) (is_index x.owner i) (ap (λ o. is_index o i) first)
-  where
-    go : (b c : Bool) → b ≡ c → (if b then own_numbers owner i s ++ s ∷ [] else own_numbers owner i s) ++ own_from (suc s) i sets ≡ own_numbers owner i s ++ (if c then s ∷ own_from (suc s) i sets else own_from (suc s) i sets)
-    go true true e = append_assoc (own_numbers owner i s) (s ∷ []) (own_from (suc s) i sets)
-    go false false e = refl
-    go true false e = cc
-    go false true e = cc
-
--- a player's own sets are the same by the tree's lists and by the game
-pub own_from-own_sets : (t : GameTree) (i : ℕ) → own_from 0 i t.sets ≡ own_sets (game_of_tree t) i
-own_from-own_sets t i =
-    let start : 0 + length t.sets ≡ length t.sets = omega arith in
-    sym (own_sets-numbers (game_of_tree t) i ∙ ap (own_numbers (game_of_tree t).owner i) (sym start) ∙ own_from-numbers (game_of_tree t).owner i 0 t.sets (λ k. ap (game_of_tree t).owner (omega arith)))
 
 -- ---- counts
 -- one more number counts as its owner's
@@ -159,7 +134,7 @@ ArePlacesBelow-next owner n place places is h = record {
 pub ArePlaces-below : (t : Tree) (places : List ℕ) → ArePlacesBelow t.owner t.sets places → ArePlaces t places
 ArePlaces-below t places h = record {
   one_for_each = h.one_for_each;
-  are_places = λ s i below own. rw (own_sets-numbers t i, h.are_places s i below own) (own_numbers-at t.owner i s t.sets below own);
+  are_places = λ s i below own. rw (h.are_places s i below own) (own_numbers-at t.owner i s t.sets below own);
 }
 
 -- the same by the list of the owners

@@ -5,7 +5,7 @@ use Rattle.std.proofs.lemmas.Bool.{cases_lt, cases_eq}
 use Rattle.std.proofs.lemmas.List.{length-map, length-set, length_push, get_or-set_same, get_or-set_other, get_or_append_left, get_or_push}
 use Rattle.std.proofs.lemmas.List.Elements.{All-map}
 use Rattle.std.proofs.lemmas.Option.{none-some, same_Some, slice_get_within, slice_get-get_or, slice_get-map, slice_get_read, get_or_from_slice_get}
-use Rattle.game_theory.specs.OwnSets.{own_sets, own_counts, Chooses}
+use Rattle.game_theory.specs.OwnSets.{own_sets, own_counts, Chooses, NobodyChooses}
 use Rattle.lists.proofs.ElementLemmas.{element}
 use Rattle.game_theory.specs.Trees.{Tree, IsTree}
 use Rattle.game_theory.specs.Recall.{own_history}
@@ -15,7 +15,7 @@ use Rattle.choice_lists.specs.Reduced.{AreLinked, ComesFrom}
 use Rattle.strategy_lists.specs.Decisions.{history_by, IsDecisionAt, AreDecisions, AreDecisionsOfAll}
 use Rattle.strategy_lists.specs.Made.{mover, IsEdgeTo, LeadsTo, IsMadeAt, HasTaken}
 use Rattle.strategy_lists.proofs.OwnNumberLemmas.{slice_get-push, slice_get-push_cases}
-use Rattle.strategy_lists.proofs.MoveLemmas.{mover-move, mover-within}
+use Rattle.strategy_lists.proofs.MoveLemmas.{move_at, mover-move, mover-within}
 use Rattle.strategy_lists.proofs.ReducedListLemmas.{own_set-place, own_set-tell}
 
 -- the decisions of player i at the nodes below n, their numbers by node, and by set the number of one of them, where there is one
@@ -241,13 +241,13 @@ AreMadeByAll-none t latest lists players sets nothing none = record {
     is_empty i decisions at_i = sym (get_or_from_slice_get lists i decisions [] at_i) ∙ none i [] (slice_get_within lists i decisions at_i)
 
 -- a node at which nobody moves
-pub AreMadeByAll-nobody : (t : Tree) (n : ℕ) (numbers : List ℕ) (number : ℕ) (latest : List (Option ℕ)) (lists : List (List Decision)) → mover t n ≡ None → AreMadeByAll t n numbers latest lists → AreMadeByAll t (suc n) (numbers ++ number ∷ []) latest lists
+pub AreMadeByAll-nobody : (t : Tree) (n : ℕ) (numbers : List ℕ) (number : ℕ) (latest : List (Option ℕ)) (lists : List (List Decision)) → NobodyChooses t n → AreMadeByAll t n numbers latest lists → AreMadeByAll t (suc n) (numbers ++ number ∷ []) latest lists
 AreMadeByAll-nobody t n numbers number latest lists nobody h = record {
   list_for_each = h.list_for_each;
   number_for_each = length_push numbers number ∙ omega (arith, h.number_for_each);
   latest_for_each = h.latest_for_each;
   few = λ i decisions at_i. let few = h.few i decisions at_i in omega arith;
-  are_made = λ i decisions at_i. AreMade-other t n i numbers number latest latest decisions h.number_for_each (λ own. none-some i (sym nobody ∙ own)) (λ s own. refl) (h.are_made i decisions at_i);
+  are_made = λ i decisions at_i. AreMade-other t n i numbers number latest latest decisions h.number_for_each (λ own. let move = move_at t i n own in nobody i move.0 move.1) (λ s own. refl) (h.are_made i decisions at_i);
 }
 
 -- a node at which a player moves, whose list takes the decision

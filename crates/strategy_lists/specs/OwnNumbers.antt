@@ -1,11 +1,6 @@
--- The numbers that are a player's own, where each number has an owner or none.
-use Rattle.std.specs.Prelude.{ℕ, zero, suc, ◌+◌, ◌<◌, ◌≡◌, if◌then◌else◌, List, [], ◌∷◌, ◌++◌, length, slice_index, slice_set, Option, Some, None}
-use Rattle.game_theory.specs.Behaviour.{is_index}
-
--- the numbers below n that are player i's own, in order
-abbrev pub own_numbers : (ℕ → Option ℕ) → ℕ → ℕ → List ℕ
-own_numbers owner i zero = []
-own_numbers owner i (suc n) = if is_index (owner n) i then own_numbers owner i n ++ n ∷ [] else own_numbers owner i n
+-- The places of numbers among those of one owner, while they are counted.
+use Rattle.std.specs.Prelude.{ℕ, ◌+◌, ◌<◌, ◌≡◌, List, length, slice_index, slice_set, Option, Some, None}
+use Rattle.game_theory.specs.OwnSets.{own_numbers}
 
 -- one more number counts as its owner's
 abbrev pub counted : List ℕ → Option ℕ → List ℕ

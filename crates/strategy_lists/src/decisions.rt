@@ -9,6 +9,7 @@ ghost use Rattle.game_theory.specs.OwnSets.{Chooses, own_sets};
 
 use answers::Memory;
 use choice_lists::{Decision, Edge};
+use game_core::tree_parts::choice_at;
 use game_core::{Kind, Node, Tree, trees_are_game_trees};
 use std::alloc::Global;
 
@@ -20,18 +21,6 @@ fn mover(node: &Node) -> Option<u32>
         Kind::Move { player } => Some(player),
         Kind::Chance | Kind::End => None,
     }
-}
-
-// The player who moves at a node, and the node's set; nothing where no player does.
-fn move_at(tree: &Tree, number: usize) -> Option<(u32, u32)>
-    requires { number < length tree.now.nodes }
-    ensures { MatchOption result (mover (game_of_tree tree.now) number
-        ≡ None) (λ it. Chooses (game_of_tree tree.now) number it.0 it.1) }
-{
-    let node = &tree.nodes()[number];
-    let player = mover(node)?;
-    let set = node.set?;
-    Some((player, set))
 }
 
 // The last node above this one at which the player moves, and the action there that leads towards this one;
@@ -144,7 +133,7 @@ pub fn decisions_of_all(
     let mut numbers = Vec::new(alloc);
     for node in 0..tree.nodes().len() {
         let mut number = 0;
-        if let Some((player, set)) = move_at(tree, node) {
+        if let Some((player, set)) = choice_at(tree, node) {
             let decision = decision_at(tree, places, numbers.as_slice(), node, player);
             let list = &mut lists[player as usize];
             number = take(list, &mut latest[set as usize], decision)?;

@@ -13,5 +13,5 @@ mod decisions;
 mod places;
 mod strategies;
 
-pub use places::{own_sets_are_those_of_the_tree, set_places};
+pub use places::set_places;
 pub use strategies::Decisions;

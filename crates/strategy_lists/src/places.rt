@@ -1,10 +1,9 @@
 // The places of sets among their owners' own sets.
-ghost use Rattle.std.specs.Prelude.{◌≡◌, ◌<◌, ◌+◌, ◌^◌, ℕ, All, IfOk, IfSome, length, map, slice_index, slice_index_or};
-ghost use Rattle.game_core.specs.Tree.{GameTree, IsBelow, own_sets as tree_sets};
+ghost use Rattle.std.specs.Prelude.{◌≡◌, ◌<◌, ◌+◌, ◌^◌, All, IfOk, IfSome, length, map, slice_index, slice_index_or};
+ghost use Rattle.game_core.specs.Tree.{IsBelow};
 ghost use Rattle.game_core.specs.TreeGame.{game_of_tree};
 ghost use Rattle.reduced_strategies.specs.Places.{ArePlaces};
 ghost use Rattle.strategy_lists.specs.OwnNumbers.{counted, ArePlacesBelow};
-ghost use Rattle.game_theory.specs.OwnSets.{own_sets};
 
 use answers::Memory;
 use game_core::{InfoSet, Tree};
@@ -57,8 +56,3 @@ pub fn set_places(alloc: Global, tree: &Tree) -> Result<Vec<u32>, Memory>
     let owners = owners(alloc, tree.sets())?;
     places_among(alloc, tree.players().len(), owners.as_slice())
 }
-
-/// The own sets of a player are the same by the tree's lists and by the game that it stands for.
-pub fn own_sets_are_those_of_the_tree()
-    ensures { (t : GameTree) (i : ℕ) → tree_sets t i ≡ own_sets (game_of_tree t) i }
-{}

@@ -1,6 +1,7 @@
 -- The choice at a node as the code reads it: its word, its name, and then its set.
 use Rattle.std.proofs.Common.{◌≡◌, ℕ, List, true, false, codes, Option, Some, None, option_map, refl, sym, ap, ◌∙◌}
 use Rattle.std.proofs.lemmas.Option.{same_Some}
+use Rattle.std.specs.Str.{bytes_eq}
 use Rattle.lists.specs.Options.{◌>>=◌}
 use Rattle.lists.proofs.OptionLemmas.{bind_some}
 use Rattle.game_core.specs.declared.tree.Kind.{Kind}
@@ -11,7 +12,6 @@ use Rattle.file_parts.specs.Reading.{word_at, text_at, optional_text_at, count_a
 use Rattle.written_trees.specs.Written.{SetUse}
 use Rattle.written_trees.specs.Described.{key_of, kind_of_use}
 use Rattle.written_trees.specs.Building.{PartialSet, use_set, use_some_set, set_place}
-use Rattle.tree_grammar.specs.TreePieces.{is_word}
 use Rattle.tree_grammar.proofs.PartValueLemmas.{choice_at, choice_after, choice_part_at, action_list_at, optional_at, set_use_at, set_part_at, set_choice_at, own_choice_at, own_use_at, chance_use_at, player_at}
 
 -- a set's use is of the owner for whom it is read
@@ -74,13 +74,13 @@ unfolding choice_part_at choice_at
 following players k sets tokens word name e f = rw (e, f) refl
 
 -- chance
-pub by_chance : (players k : ℕ) (sets : List PartialSet) (tokens : List Token) (word name : List ℕ × List Token) → word_at tokens ≡ Some word → text_at word.1 ≡ Some name → is_word word.0 (codes "c") ≡ true
+pub by_chance : (players k : ℕ) (sets : List PartialSet) (tokens : List Token) (word name : List ℕ × List Token) → word_at tokens ≡ Some word → text_at word.1 ≡ Some name → bytes_eq word.0 (codes "c") ≡ true
     → choice_part_at players k sets tokens ≡ set_choice_at k sets None name.1
 unfolding chance_use_at
 by_chance players k sets tokens word name e f c = following players k sets tokens word name e f ∙ rw c (set_choice k sets None name.1)
 
 -- a player's number, and then the set
-pub by_player : (players k : ℕ) (sets : List PartialSet) (tokens : List Token) (word name : List ℕ × List Token) → word_at tokens ≡ Some word → text_at word.1 ≡ Some name → is_word word.0 (codes "c") ≡ false → is_word word.0 (codes "p") ≡ true
+pub by_player : (players k : ℕ) (sets : List PartialSet) (tokens : List Token) (word name : List ℕ × List Token) → word_at tokens ≡ Some word → text_at word.1 ≡ Some name → bytes_eq word.0 (codes "c") ≡ false → bytes_eq word.0 (codes "p") ≡ true
     → choice_part_at players k sets tokens ≡ own_choice_at players k sets name.1
 unfolding own_use_at
 by_player players k sets tokens word name e f c p = following players k sets tokens word name e f ∙ rw (c, p) (go (player_at players name.1))
@@ -92,11 +92,11 @@ by_player players k sets tokens word name e f c p = following players k sets tok
     go (Some player) = set_choice k sets (Some player.0) player.1
 
 -- an end
-pub at_end : (players k : ℕ) (sets : List PartialSet) (tokens : List Token) (word name : List ℕ × List Token) → word_at tokens ≡ Some word → text_at word.1 ≡ Some name → is_word word.0 (codes "c") ≡ false → is_word word.0 (codes "p") ≡ false → is_word word.0 (codes "t") ≡ true
+pub at_end : (players k : ℕ) (sets : List PartialSet) (tokens : List Token) (word name : List ℕ × List Token) → word_at tokens ≡ Some word → text_at word.1 ≡ Some name → bytes_eq word.0 (codes "c") ≡ false → bytes_eq word.0 (codes "p") ≡ false → bytes_eq word.0 (codes "t") ≡ true
     → choice_part_at players k sets tokens ≡ Some ((sets, (End, None)), name.1)
 at_end players k sets tokens word name e f c p t = following players k sets tokens word name e f ∙ rw (c, p, t) refl
 
 -- another word
-pub no_node : (players k : ℕ) (sets : List PartialSet) (tokens : List Token) (word name : List ℕ × List Token) → word_at tokens ≡ Some word → text_at word.1 ≡ Some name → is_word word.0 (codes "c") ≡ false → is_word word.0 (codes "p") ≡ false → is_word word.0 (codes "t") ≡ false
+pub no_node : (players k : ℕ) (sets : List PartialSet) (tokens : List Token) (word name : List ℕ × List Token) → word_at tokens ≡ Some word → text_at word.1 ≡ Some name → bytes_eq word.0 (codes "c") ≡ false → bytes_eq word.0 (codes "p") ≡ false → bytes_eq word.0 (codes "t") ≡ false
     → choice_part_at players k sets tokens ≡ None
 no_node players k sets tokens word name e f c p t = following players k sets tokens word name e f ∙ rw (c, p, t) refl

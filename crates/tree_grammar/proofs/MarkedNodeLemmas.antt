@@ -11,7 +11,7 @@ use Rattle.file_parts.specs.Parsing.{Parsed, ◌>>=◌, wanted}
 use Rattle.file_parts.proofs.ReaderLemmas.{IsReader, bind_reader, pure_reader, choose, choose_reader, same_reader, token_reader, ok_err, result_of, chain}
 use Rattle.file_parts.proofs.TokenReaderLemmas.{text_reader, some_or_none}
 use Rattle.written_trees.specs.Building.{PartialTree, Branching, PartialSet, passed, Choice, with_parts}
-use Rattle.tree_grammar.specs.TreePieces.{is_word, is_node_word, begins_node}
+use Rattle.tree_grammar.specs.TreePieces.{is_node_word, begins_node}
 use Rattle.tree_grammar.specs.TreeParsing.{parse_set, parse_player, parse_outcome, parse_set_choice, parse_own_choice, parse_choice, parse_after, parse_next}
 use Rattle.tree_grammar.specs.declared.kinds.EfgKind.{EfgKind}
 use Rattle.tree_grammar.specs.declared.kinds.EfgKind.TheVariants.{Node}
@@ -20,6 +20,7 @@ use Rattle.tree_grammar.proofs.ChanceReaderLemmas.{chance_list_reader}
 use Rattle.tree_grammar.proofs.NodeReaderLemmas.{ReadsNoText, ReadsNoBrace, map_then, first_list_reader}
 use Rattle.tree_grammar.proofs.MarkedReaderLemmas.{outcome_part_reader, set_part_reader, player_reader}
 use Rattle.std.proofs.lemmas.Bool.{cases_Bool}
+use Rattle.std.specs.Str.{bytes_eq}
 use Rattle.game_core.specs.declared.too_large.What.{What}
 use Rattle.tree_grammar.proofs.LocatedReadingLemmas.{located_at, located_unlimited}
 
@@ -87,8 +88,8 @@ then_set most players partial b rest owner tokens = parse_set_choice (length par
 -- by the word
 by_word : ℕ → ℕ → PartialTree → Branching → List Branching → List ℕ → List Token → Parsed EfgKind PartialTree
 by_word most players partial b rest word tokens =
-    if is_word word (codes "c") then then_set most players partial b rest None tokens
-    else if is_word word (codes "p") then (parse_player players tokens >>= λ player. then_set most players partial b rest (Some player.0) player.1) else then_outcome most players partial b rest (partial.sets, (End, None)) tokens
+    if bytes_eq word (codes "c") then then_set most players partial b rest None tokens
+    else if bytes_eq word (codes "p") then (parse_player players tokens >>= λ player. then_set most players partial b rest (Some player.0) player.1) else then_outcome most players partial b rest (partial.sets, (End, None)) tokens
 
 -- a further node, and what follows it
 further : ℕ → ℕ → PartialTree → Branching → List Branching → List Token → Parsed EfgKind PartialTree
@@ -120,16 +121,16 @@ own_row players k sets tokens g = elim (result_of (parse_player players tokens))
 ]
 
 -- a word of a node that is neither of chance nor of a player is one of an end
-end_word : (word : List ℕ) → is_node_word word ≡ true → is_word word (codes "c") ≡ false → is_word word (codes "p") ≡ false → is_word word (codes "t") ≡ true
-end_word word n c p = let t : is_word word (codes "t") ≡ true = rw (c, p) at n in t
+end_word : (word : List ℕ) → is_node_word word ≡ true → bytes_eq word (codes "c") ≡ false → bytes_eq word (codes "p") ≡ false → bytes_eq word (codes "t") ≡ true
+end_word word n c p = let t : bytes_eq word (codes "t") ≡ true = rw (c, p) at n in t
 
 -- after the word and the name
 choice_row : (most players : ℕ) (partial : PartialTree) (b : Branching) (rest : List Branching) (word : List ℕ) (start tokens : List Token) → is_node_word word ≡ true
     → (parse_after players (length partial.nodes) partial.sets word start tokens >>= λ c. then_outcome most players partial b rest c.0 c.1) ≡ by_word most players partial b rest word tokens
 unfolding by_word then_set
-choice_row most players partial b rest word start tokens n = elim (cases_Bool (is_word word (codes "c"))) [
+choice_row most players partial b rest word start tokens n = elim (cases_Bool (bytes_eq word (codes "c"))) [
   | inl c ↦ rw c refl
-  | inr c ↦ elim (cases_Bool (is_word word (codes "p"))) [
+  | inr c ↦ elim (cases_Bool (bytes_eq word (codes "p"))) [
     | inl p ↦ rw (c, p) (own_row players (length partial.nodes) partial.sets tokens (then_outcome most players partial b rest))
     | inr p ↦ rw (c, p, end_word word n c p) refl
   ]
@@ -175,9 +176,9 @@ set_part most players partial b rest M owner =
 
 by_word_reader : (most players : ℕ) (partial : PartialTree) (b : Branching) (rest : List Branching) → 1 ≤ players → ((next : PartialTree) → IsReader (marked most players next)) → (word : List ℕ) → IsReader (by_word most players partial b rest word)
 unfolding by_word
-by_word_reader most players partial b rest h M word = elim (cases_Bool (is_word word (codes "c"))) [
+by_word_reader most players partial b rest h M word = elim (cases_Bool (bytes_eq word (codes "c"))) [
   | inl c ↦ same_reader (by_word most players partial b rest word) (then_set most players partial b rest None) (λ tokens. rw c refl) (set_part most players partial b rest M None)
-  | inr c ↦ elim (cases_Bool (is_word word (codes "p"))) [
+  | inr c ↦ elim (cases_Bool (bytes_eq word (codes "p"))) [
     | inl p ↦
         same_reader (by_word most players partial b rest word) (λ tokens. parse_player players tokens >>= λ player. then_set most players partial b rest (Some player.0) player.1) (λ tokens. rw (c, p) refl)
         (bind_reader (parse_player players) (λ player tokens. then_set most players partial b rest (Some player) tokens) (player_reader players h) (λ _ player _. set_part most players partial b rest M (Some player)))

@@ -15,11 +15,12 @@ use Rattle.written_trees.specs.Written.{SetUse, OutcomeUse, WrittenNode}
 use Rattle.written_trees.specs.Described.{IsActionList}
 use Rattle.written_trees.specs.Laws.{IsSetUse, IsOutcomeUse, IsWrittenNode}
 use Rattle.tree_grammar.specs.TreeFile.{AreActions, IsSetPart, ArePayoffs, IsOutcomePart, IsInnerPart, IsChoicePart, IsNode, IsNodeWord}
-use Rattle.tree_grammar.specs.TreePieces.{is_word, is_node_word, begins_node}
+use Rattle.tree_grammar.specs.TreePieces.{is_node_word, begins_node}
 use Rattle.tree_grammar.proofs.PartValueLemmas.{set_use_at, outcome_use_at, player_at, chance_use_at, own_use_at, choice_after, choice_at, node_at}
 use Rattle.tree_grammar.proofs.SetLaws.{IsBare, set_is, set_again}
 use Rattle.tree_grammar.proofs.OutcomeLaws.{outcome_is, outcome_again, outcome_bare}
 use Rattle.std.proofs.lemmas.Bool.{or_cases}
+use Rattle.std.specs.Str.{bytes_eq}
 use Rattle.lists.proofs.OptionLemmas.{bind_some, either}
 use Rattle.game_core.specs.declared.token.Token.{Token}
 use Rattle.game_core.specs.declared.token.Token.TheVariants.{Text, Word}
@@ -60,7 +61,7 @@ player_again players i rest h =
 
 -- ---- the word
 -- a word that passes a test is the one that is expected
-pub word_passes : (word expected : List ℕ) → is_word word expected ≡ true → word ≡ expected
+pub word_passes : (word expected : List ℕ) → bytes_eq word expected ≡ true → word ≡ expected
 word_passes word expected e = (slice_eq-Decides Decides-eqb word expected _ refl).0 e
 
 -- ---- a choice
@@ -96,20 +97,20 @@ own_is players name tokens x e =
     subst (BeginsWithChoice players (Word (codes "p") ∷ Text name ∷ tokens)) (same_Some _ _ b.2) (front ++ s.part, is, all)
 
 -- the word that is expected
-with_word : (players : ℕ) (word expected name : List ℕ) (tokens : List Token) (x : Option SetUse × List Token) → is_word word expected ≡ true → BeginsWithChoice players (Word expected ∷ Text name ∷ tokens) x → BeginsWithChoice players (Word word ∷ Text name ∷ tokens) x
+with_word : (players : ℕ) (word expected name : List ℕ) (tokens : List Token) (x : Option SetUse × List Token) → bytes_eq word expected ≡ true → BeginsWithChoice players (Word expected ∷ Text name ∷ tokens) x → BeginsWithChoice players (Word word ∷ Text name ∷ tokens) x
 with_word players word expected name tokens x e h = rw (word_passes word expected e) h
 
 -- what is read after a word and a name is a choice
 choice_after_is : (players : ℕ) (word name : List ℕ) (tokens : List Token) (x : Option SetUse × List Token) → choice_after players word tokens ≡ Some x → BeginsWithChoice players (Word word ∷ Text name ∷ tokens) x
 choice_after_is players word name tokens x e =
-    let at_end : Option (Option SetUse × List Token) = cond (is_word word (codes "t")) (Some (None, tokens)) None in
-    let not_chance : Option (Option SetUse × List Token) = cond (is_word word (codes "p")) (own_use_at players tokens) at_end in
-    elim (either (is_word word (codes "c")) (chance_use_at tokens) not_chance (Some x) e) [
+    let at_end : Option (Option SetUse × List Token) = cond (bytes_eq word (codes "t")) (Some (None, tokens)) None in
+    let not_chance : Option (Option SetUse × List Token) = cond (bytes_eq word (codes "p")) (own_use_at players tokens) at_end in
+    elim (either (bytes_eq word (codes "c")) (chance_use_at tokens) not_chance (Some x) e) [
       | inl c ↦ with_word players word (codes "c") name tokens x c.0 (chance_is players name tokens x c.1)
-      | inr n ↦ elim (either (is_word word (codes "p")) (own_use_at players tokens) at_end (Some x) n.1) [
+      | inr n ↦ elim (either (bytes_eq word (codes "p")) (own_use_at players tokens) at_end (Some x) n.1) [
         | inl p ↦ with_word players word (codes "p") name tokens x p.0 (own_is players name tokens x p.1)
         | inr m ↦
-            let t = cond_some (is_word word (codes "t")) (None, tokens) x m.1 in
+            let t = cond_some (bytes_eq word (codes "t")) (None, tokens) x m.1 in
             with_word players word (codes "t") name tokens x t.0 (subst (BeginsWithChoice players (Word (codes "t") ∷ Text name ∷ tokens)) t.1 (Word (codes "t") ∷ Text name ∷ [], (name, refl), refl))
       ]
     ]
@@ -234,9 +235,9 @@ node_word_passes word (inr (inr t)) = rw t refl
 
 -- a word that passes the test is a node's word
 passing_word : (word : List ℕ) → is_node_word word ≡ true → IsNodeWord word
-passing_word word e = elim (or_cases (is_word word (codes "c")) (is_word word (codes "p") || is_word word (codes "t")) e) [
+passing_word word e = elim (or_cases (bytes_eq word (codes "c")) (bytes_eq word (codes "p") || bytes_eq word (codes "t")) e) [
   | inl c ↦ inl (word_passes word (codes "c") c)
-  | inr n ↦ elim (or_cases (is_word word (codes "p")) (is_word word (codes "t")) n) [
+  | inr n ↦ elim (or_cases (bytes_eq word (codes "p")) (bytes_eq word (codes "t")) n) [
     | inl p ↦ inr (inl (word_passes word (codes "p") p))
     | inr t ↦ inr (inr (word_passes word (codes "t") t))
   ]

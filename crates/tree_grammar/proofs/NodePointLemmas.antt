@@ -3,6 +3,7 @@ use Rattle.std.proofs.Common.{◌≡◌, ℕ, zero, suc, ◌-◌, ◌<◌, ◌�
 use Rattle.std.specs.Prelude.{Ok, Err, codes}
 use Rattle.std.proofs.lemmas.Bool.{cases_Bool}
 use Rattle.std.proofs.lemmas.Option.{same_Some}
+use Rattle.std.specs.Str.{bytes_eq}
 use Rattle.lists.proofs.NumberLemmas.{positive}
 use Rattle.lists.proofs.OptionLemmas.{bind_some}
 use Rattle.game_core.specs.declared.tree.Action.{Action}
@@ -20,7 +21,6 @@ use Rattle.written_trees.specs.Written.{SetUse, OutcomeUse}
 use Rattle.written_trees.specs.Described.{key_of}
 use Rattle.written_trees.specs.Building.{PartialTree, PartialSet, PartialOutcome, Branching, set_place, outcome_place, use_some_set, Choice}
 use Rattle.tree_grammar.specs.TreeFile.{IsSetPart, IsInnerPart, IsChoicePart, IsOutcomePart}
-use Rattle.tree_grammar.specs.TreePieces.{is_word}
 use Rattle.tree_grammar.proofs.PartValueLemmas.{choice_at, choice_part_at}
 use Rattle.tree_grammar.specs.TreeParsing.{is_whole, parse_own_list, parse_first_list, parse_later_list, bare_use, parse_use, parse_set, parse_player, parse_set_choice, parse_own_choice, parse_after, parse_choice, parse_first_payoffs, parse_later_payoffs, bare_outcome_use, parse_outcome_use, parse_named, parse_outcome, parse_next}
 use Rattle.file_parts.specs.Faults.{WholeComes}
@@ -188,21 +188,21 @@ player_choice_stops players k sets name tokens f e = elim (bind_err (parse_playe
 ]
 
 after_stops : (players k : ℕ) (sets : List PartialSet) (word name : List ℕ) (start tokens : List Token) (f : EfgKind × List Token) → parse_after players k sets word start tokens ≡ Err f → (f.0 ≡ Node) ⊎ ChoiceStops players sets (Word word ∷ Text name ∷ tokens) f.0 f.1
-after_stops players k sets word name start tokens f e = elim (cases_Bool (is_word word (codes "c"))) [
+after_stops players k sets word name start tokens f e = elim (cases_Bool (bytes_eq word (codes "c"))) [
   | inl c ↦
       let g : parse_set_choice k sets None tokens ≡ Err f = rw c at e in
       elim (chance_stops players k sets name tokens f g) [
         | inl n ↦ inl n
         | inr s ↦ inr (inr (expected (codes "c") (word_passes word (codes "c") c) (λ q. InnerStops players sets q f.0 f.1) s))
       ]
-  | inr c ↦ elim (cases_Bool (is_word word (codes "p"))) [
+  | inr c ↦ elim (cases_Bool (bytes_eq word (codes "p"))) [
     | inl p ↦
         let g : parse_own_choice players k sets tokens ≡ Err f = rw (c, p) at e in
         elim (player_choice_stops players k sets name tokens f g) [
           | inl n ↦ inl n
           | inr s ↦ inr (expected (codes "p") (word_passes word (codes "p") p) (λ q. ChoiceStops players sets q f.0 f.1) s)
         ]
-    | inr p ↦ elim (cases_Bool (is_word word (codes "t"))) [
+    | inr p ↦ elim (cases_Bool (bytes_eq word (codes "t"))) [
       | inl t ↦ let g : ◌≡◌ {A = Parsed EfgKind Choice} (Ok ((sets, (End, None)), tokens)) (Err f) = rw (c, p, t) at e in absurd (ok_err _ f g)
       | inr t ↦ let g : ◌≡◌ {A = Parsed EfgKind Choice} (Err (Node, start)) (Err f) = rw (c, p, t) at e in node_only {X = Choice} start f g
     ]

@@ -14,7 +14,6 @@ use Rattle.written_trees.specs.Written.{SetUse, OutcomeUse, WrittenNode}
 use Rattle.written_trees.specs.Described.{key_of, IsActionList}
 use Rattle.written_trees.specs.Building.{PartialTree, PartialSet, PartialOutcome, Branching, set_place, outcome_place, new_set, used_set, new_outcome, used_outcome, may_be_first, repeats_actions, repeats_payoffs, with_use, use_some_set, with_outcome_use, use_some_outcome, with_node, add_at, add_node, add_nodes}
 use Rattle.written_trees.specs.Laws.{IsSetUse, IsOutcomeUse, IsWrittenNode}
-use Rattle.tree_grammar.specs.TreePieces.{is_word}
 use Rattle.tree_grammar.proofs.PartValueLemmas.{set_part_at, set_choice_at, player_at, own_choice_at, choice_part_at, outcome_part_at, next_at}
 use Rattle.tree_grammar.specs.TreeParsing.{parse_player, parse_set, parse_set_choice, parse_own_choice, parse_choice, parse_outcome, parse_next}
 use Rattle.tree_grammar.specs.declared.kinds.EfgKind.TheVariants.{UnknownPlayer}
@@ -25,6 +24,7 @@ use Rattle.tree_grammar.proofs.TreeValueLemmas.{AreListed, ArePaid, value_set, v
 use Rattle.lists.specs.Options.{◌>>=◌}
 use Rattle.lists.proofs.OptionLemmas.{bind_some}
 use Rattle.std.proofs.lemmas.Bool.{cases_Bool}
+use Rattle.std.specs.Str.{bytes_eq}
 use Rattle.lists.proofs.ElementLemmas.{all_at}
 
 -- ---- a choice
@@ -47,11 +47,11 @@ pub value_choice : (players k : ℕ) (sets : List PartialSet) (tokens : List Tok
 unfolding parse_choice
 value_choice players k sets tokens all = elim (some_or_none (word_at tokens)) [
   | inl w ↦ elim (some_or_none (text_at w.0.1)) [
-    | inl n ↦ elim (cases_Bool (is_word w.0.0 (codes "c"))) [
+    | inl n ↦ elim (cases_Bool (bytes_eq w.0.0 (codes "c"))) [
       | inl c ↦ rw (w.1, n.1, c) (value_set_choice k sets None n.0.1 all ∙ sym (by_chance players k sets tokens w.0 n.0 w.1 n.1 c))
-      | inr c ↦ elim (cases_Bool (is_word w.0.0 (codes "p"))) [
+      | inr c ↦ elim (cases_Bool (bytes_eq w.0.0 (codes "p"))) [
         | inl p ↦ rw (w.1, n.1, c, p) (value_own_choice players k sets n.0.1 all ∙ sym (by_player players k sets tokens w.0 n.0 w.1 n.1 c p))
-        | inr p ↦ elim (cases_Bool (is_word w.0.0 (codes "t"))) [
+        | inr p ↦ elim (cases_Bool (bytes_eq w.0.0 (codes "t"))) [
           | inl t ↦ rw (w.1, n.1, c, p, t) (sym (at_end players k sets tokens w.0 n.0 w.1 n.1 c p t))
           | inr t ↦ rw (w.1, n.1, c, p, t) (sym (no_node players k sets tokens w.0 n.0 w.1 n.1 c p t))
         ]

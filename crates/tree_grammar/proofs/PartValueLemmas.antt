@@ -1,6 +1,7 @@
 -- Reading parts of a tree without the kinds and places of faults: each takes one part off the front and gives what it stands for
 -- and the tokens after it, or nothing.
 use Rattle.std.specs.Prelude.{ℕ, suc, ◌-◌, ◌&&◌, if◌then◌else◌, nat_eq, nat_le, List, [], ◌∷◌, length, map, option_map, Option, Some, None, codes}
+use Rattle.std.specs.Str.{bytes_eq}
 use Rattle.rational.specs.Rational.{ℚ, ◌+ℚ◌}
 use Rattle.game_core.specs.declared.tree.Action.{Action}
 use Rattle.game_core.specs.declared.tree.Kind.{Kind}
@@ -14,7 +15,7 @@ use Rattle.rational.specs.Tests.{eq_ℚ}
 use Rattle.lists.specs.Options.{◌>>=◌}
 use Rattle.game_core.specs.declared.token.Token.{Token}
 use Rattle.game_core.specs.declared.token.Token.TheVariants.{Text, Number}
-use Rattle.tree_grammar.specs.TreePieces.{closed_at, is_word}
+use Rattle.tree_grammar.specs.TreePieces.{closed_at}
 use Rattle.tree_grammar.specs.TreeParsing.{own_action}
 
 -- ---- a list of actions
@@ -88,7 +89,7 @@ own_use_at players tokens = do
 -- what follows the word with which a node begins, and its name
 abbrev pub choice_after : ℕ → List ℕ → List Token → Option (Option SetUse × List Token)
 choice_after players word tokens =
-    if is_word word (codes "c") then chance_use_at tokens else if is_word word (codes "p") then own_use_at players tokens else if is_word word (codes "t") then Some (None, tokens) else None
+    if bytes_eq word (codes "c") then chance_use_at tokens else if bytes_eq word (codes "p") then own_use_at players tokens else if bytes_eq word (codes "t") then Some (None, tokens) else None
 
 -- a node up to its outcome
 unfoldable pub choice_at : ℕ → List Token → Option (Option SetUse × List Token)

@@ -2,6 +2,7 @@
 use Rattle.std.proofs.Common.{◌≡◌, ℕ, zero, suc, ◌+◌, ◌≤◌, ◌-◌, ◌&&◌, if◌then◌else◌, nat_eq, nat_le, slice_get, List, [], ◌∷◌, ◌++◌, length, length-append, Bool, true, false, codes, Option, Some, None, inl, inr, refl, sym, ap, ◌∙◌, subst, append_assoc, arith}
 use Rattle.std.specs.Prelude.{Ok, Err}
 use Rattle.std.proofs.lemmas.Bool.{cases_Bool}
+use Rattle.std.specs.Str.{bytes_eq}
 use Rattle.game_core.specs.declared.tree.Kind.TheVariants.{End}
 use Rattle.game_core.specs.declared.token.Token.{Token}
 use Rattle.game_core.specs.declared.token.Token.TheVariants.{Text, Word}
@@ -11,7 +12,6 @@ use Rattle.file_parts.proofs.ReaderLemmas.{chain, IsReader, bind_ok, bind_err, o
 use Rattle.file_parts.proofs.TokenReaderLemmas.{text_reader, count_reader}
 use Rattle.written_trees.specs.Written.{SetUse, OutcomeUse}
 use Rattle.written_trees.specs.Building.{PartialTree, PartialSet, PartialOutcome, Branching, set_place, outcome_place, Choice}
-use Rattle.tree_grammar.specs.TreePieces.{is_word}
 use Rattle.tree_grammar.specs.TreeParsing.{is_whole, parse_first_list, parse_repeated_list, parse_later_list, bare_use, parse_use, parse_set, parse_player, parse_set_choice, parse_own_choice, parse_after, parse_choice, parse_first_payoffs, parse_repeated_payoffs, parse_later_payoffs, bare_outcome_use, parse_outcome_use, parse_named, parse_outcome, parse_next}
 use Rattle.tree_grammar.specs.declared.kinds.EfgKind.{EfgKind}
 use Rattle.tree_grammar.specs.declared.kinds.EfgKind.TheVariants.{Node, UnknownPlayer}
@@ -154,7 +154,7 @@ pub record WithinFrom {X : Type 0} (start : List Token) (p : List Token → Pars
   pub err : (tokens : List Token) (f : EfgKind × List Token) → Ends tokens start → p tokens ≡ Err f → Ends f.1 start
 
 after_within : (players k : ℕ) (sets : List PartialSet) (word : List ℕ) (start : List Token) → WithinFrom start (parse_after players k sets word start)
-after_within players k sets word start = by (is_word word (codes "c")) (is_word word (codes "p")) (is_word word (codes "t"))
+after_within players k sets word start = by (bytes_eq word (codes "c")) (bytes_eq word (codes "p")) (bytes_eq word (codes "t"))
   where
     from : {X : Type 0} (p : List Token → Parsed EfgKind X) → Within p → WithinFrom start p
     from p P = record { ok = P.ok; err = λ tokens f h e. ends_through f.1 tokens start (P.err tokens f e) h }

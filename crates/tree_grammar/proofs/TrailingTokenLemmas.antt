@@ -2,6 +2,7 @@
 use Rattle.std.proofs.Common.{◌≡◌, ℕ, zero, suc, ◌≤◌, if◌then◌else◌, nat_eq, slice_get, List, [], ◌∷◌, ◌++◌, length, length-append, Bool, true, false, true≢false, Option, Some, None, inl, inr, refl, sym, ap, ◌∙◌, append_assoc, arith}
 use Rattle.std.specs.Prelude.{Ok, Err, codes}
 use Rattle.std.proofs.lemmas.Bool.{cases_Bool}
+use Rattle.std.specs.Str.{bytes_eq}
 use Rattle.rational.specs.Rational.{ℚ}
 use Rattle.game_core.specs.declared.tree.Action.{Action}
 use Rattle.game_core.specs.declared.tree.Kind.TheVariants.{End}
@@ -13,7 +14,7 @@ use Rattle.file_parts.specs.Parsing.{Parsed, ◌>>=◌, wanted}
 use Rattle.file_parts.proofs.ReaderLemmas.{chain, IsReader, bind_ok, ok_same, err_same, ok_err}
 use Rattle.written_trees.specs.Written.{SetUse, OutcomeUse}
 use Rattle.written_trees.specs.Building.{PartialTree, PartialSet, PartialOutcome, Branching, root_alone, set_place, outcome_place, Choice}
-use Rattle.tree_grammar.specs.TreePieces.{is_word, begins_node}
+use Rattle.tree_grammar.specs.TreePieces.{begins_node}
 use Rattle.tree_grammar.specs.TreeParsing.{is_whole, has_text, parse_first_list, parse_repeated_list, parse_later_list, bare_use, parse_use, parse_set, parse_player, parse_set_choice, parse_own_choice, parse_after, parse_choice, parse_payoffs_end, parse_first_payoffs, parse_same_payoffs, parse_repeated_payoffs, parse_later_payoffs, bare_outcome_use, parse_outcome_use, parse_named, parse_outcome, parse_next, parse_front}
 use Rattle.tree_grammar.specs.TreeFaults.{IsFile}
 use Rattle.tree_grammar.specs.declared.kinds.EfgKind.{EfgKind}
@@ -141,7 +142,7 @@ own_choice_on players k sets = bind_on (parse_player players) (λ player tokens.
 -- what follows the word and the name of a node, which may begin at another place
 after_on : (players k : ℕ) (sets : List PartialSet) (word : List ℕ) (start other a : List Token) (x : Choice × List Token) (kind : EfgKind) (t : Token) (r : List Token) → parse_after players k sets word start a ≡ Ok x → GoesTo (parse_after players k sets word other (a ++ t ∷ r)) kind (t ∷ r)
     → parse_after players k sets word other (a ++ t ∷ r) ≡ Ok (x.0, x.1 ++ t ∷ r)
-after_on players k sets word start other a x kind t r = by (is_word word (codes "c")) (is_word word (codes "p")) (is_word word (codes "t"))
+after_on players k sets word start other a x kind t r = by (bytes_eq word (codes "c")) (bytes_eq word (codes "p")) (bytes_eq word (codes "t"))
   where
     reading : (c p t : Bool) → List Token → List Token → Parsed EfgKind Choice
     reading c p t from tokens = if c then parse_set_choice k sets None tokens else if p then parse_own_choice players k sets tokens else if t then Ok ((sets, (End, None)), tokens) else Err (Node, from)

@@ -2,6 +2,7 @@
 -- stands for and the tokens after it, or the kind of the fault and the tokens from the one on that it names. Where nodes are
 -- read, a limit may be passed instead.
 use Rattle.std.specs.Prelude.{ℕ, zero, suc, ◌-◌, ◌&&◌, ◌⊎◌, if◌then◌else◌, nat_eq, nat_le, Bool, true, false, List, [], ◌∷◌, ◌++◌, length, map, slice_get, slice_set, Option, Some, None, Result, Ok, Err, codes}
+use Rattle.std.specs.Str.{bytes_eq}
 use mathlib.Core.Logic.{inl, inr}
 use Rattle.rational.specs.Rational.{ℚ, ◌+ℚ◌, zero_ℚ, one_ℚ}
 use Rattle.rational.specs.Tests.{le_test, eq_ℚ}
@@ -18,7 +19,7 @@ use Rattle.file_parts.specs.Reading.{left_at, right_at, text_at, word_at, number
 use Rattle.file_parts.specs.Parsing.{Parsed, ◌>>=◌, wanted, passed, parse_each, parse_names, parse_title}
 use Rattle.written_trees.specs.Written.{SetUse, OutcomeUse}
 use Rattle.written_trees.specs.Building.{PartialTree, PartialSet, PartialOutcome, Branching, root_alone, tree_so_far, Choice, with_parts, passed as limit_passed, set_place, outcome_place, add_test, new_set, used_set, new_outcome, used_outcome}
-use Rattle.tree_grammar.specs.TreePieces.{closed_at, is_word, begins_node}
+use Rattle.tree_grammar.specs.TreePieces.{closed_at, begins_node}
 use Rattle.tree_grammar.specs.declared.kinds.EfgKind.{EfgKind}
 use Rattle.tree_grammar.specs.declared.kinds.EfgKind.TheVariants.{Header, Players, Node, UnknownPlayer, SetMismatch, Probability, ProbabilityRange, OutcomeMismatch, Unfinished, Trailing}
 
@@ -229,9 +230,9 @@ parse_own_choice players k sets tokens = do
 -- what follows the word of a node, and its name
 abbrev pub parse_after : ℕ → ℕ → List PartialSet → List ℕ → List Token → List Token → Parsed EfgKind Choice
 parse_after players k sets word start tokens =
-    if is_word word (codes "c") then parse_set_choice k sets None tokens
-    else if is_word word (codes "p") then parse_own_choice players k sets tokens
-    else if is_word word (codes "t") then Ok ((sets, (End, None)), tokens) else Err (Node, start)
+    if bytes_eq word (codes "c") then parse_set_choice k sets None tokens
+    else if bytes_eq word (codes "p") then parse_own_choice players k sets tokens
+    else if bytes_eq word (codes "t") then Ok ((sets, (End, None)), tokens) else Err (Node, start)
 
 unfoldable pub parse_choice : ℕ → ℕ → List PartialSet → List Token → Parsed EfgKind Choice
 parse_choice players k sets tokens = do

@@ -3,7 +3,8 @@ ghost use Rattle.std.specs.Prelude.{◌≡◌, if◌then◌else◌, List, map, O
 ghost use Rattle.rational.specs.Rational.{zero_ℚ};
 ghost use Rattle.game_core.specs.declared.tree.Action.{Action as action};
 ghost use Rattle.game_core.specs.declared.token.Token.{Token as token};
-ghost use Rattle.file_parts.specs.Reading.{kinds, texts_at};
+ghost use Rattle.game_core.specs.TokenList.{bare};
+ghost use Rattle.file_parts.specs.Reading.{texts_at};
 ghost use Rattle.file_parts.specs.Parsing.{Parses};
 ghost use Rattle.tree_grammar.specs.TreeParsing.{own_action, sum_with, parse_chances, parse_closed, parse_first_list, parse_repeated, parse_all_repeated, parse_later_list};
 ghost use Rattle.tree_grammar.specs.declared.kinds.EfgKind.TheVariants.{Node, SetMismatch};
@@ -36,8 +37,8 @@ fn chance_actions(
     tokens: &[Spanned],
     set: u64,
 ) -> Result<(Vec<Action>, Frac, &[Spanned]), PartStop<EfgKind>>
-    ensures { Parses (λ x. ((x.0.items, x.1), kinds x.2.now)) result
-        (parse_chances set zero_ℚ (kinds tokens.now)) }
+    ensures { Parses (λ x. ((x.0.items, x.1), bare x.2.now)) result
+        (parse_chances set zero_ℚ (bare tokens.now)) }
 {
     let mut actions = Vec::new(alloc);
     let mut sum = Frac::zero();
@@ -64,8 +65,8 @@ fn own_actions(
     tokens: &[Spanned],
 ) -> Result<(Vec<Action>, &[Spanned]), PartStop<EfgKind>>
     ensures { Parses {Y = List action
-        × List token} (λ x. (x.0.items, kinds x.1.now)) result
-        (Ok (map own_action (texts_at (kinds tokens.now)).0, (texts_at (kinds tokens.now)).1)) }
+        × List token} (λ x. (x.0.items, bare x.1.now)) result
+        (Ok (map own_action (texts_at (bare tokens.now)).0, (texts_at (bare tokens.now)).1)) }
 {
     let mut actions = Vec::new(alloc);
     let mut rest = tokens;
@@ -80,7 +81,7 @@ fn own_actions(
 
 // The tokens after the brace that closes this many actions, which is at least one.
 fn closed(tokens: &[Spanned], count: usize) -> Result<&[Spanned], PartStop<EfgKind>>
-    ensures { Parses (λ rest. (tt, kinds rest.now)) result (parse_closed count (kinds tokens.now)) }
+    ensures { Parses (λ rest. (tt, bare rest.now)) result (parse_closed count (bare tokens.now)) }
 {
     match right(tokens) {
         Some(rest) if count >= 1 => Ok(rest),
@@ -96,8 +97,8 @@ pub fn first_list(
     owner: Option<u32>,
     set: u64,
 ) -> Result<(Vec<Action>, &[Spanned]), PartStop<EfgKind>>
-    ensures { Parses (λ x. (x.0.items, kinds x.1.now)) result
-        (parse_first_list owner set (kinds tokens.now)) }
+    ensures { Parses (λ x. (x.0.items, bare x.1.now)) result
+        (parse_first_list owner set (bare tokens.now)) }
 {
     let Some(inner) = left(tokens) else {
         return Err(unexpected(EfgKind::SetMismatch, tokens));
@@ -137,8 +138,8 @@ fn repeated<'a>(
     owner: Option<u32>,
     action: &Action,
 ) -> Result<&'a [Spanned], PartStop<EfgKind>>
-    ensures { Parses (λ rest. (tt, kinds rest.now)) result
-        (parse_repeated owner action.now (kinds tokens.now)) }
+    ensures { Parses (λ rest. (tt, bare rest.now)) result
+        (parse_repeated owner action.now (bare tokens.now)) }
 {
     let Some((_, after)) = text(tokens) else {
         return Err(unexpected(mismatch_or_node(right(tokens).is_some()), tokens));
@@ -160,8 +161,8 @@ fn all_repeated<'a>(
     owner: Option<u32>,
     actions: &[Action],
 ) -> Result<&'a [Spanned], PartStop<EfgKind>>
-    ensures { Parses (λ rest. (tt, kinds rest.now)) result
-        (parse_all_repeated owner actions.now (kinds tokens.now)) }
+    ensures { Parses (λ rest. (tt, bare rest.now)) result
+        (parse_all_repeated owner actions.now (bare tokens.now)) }
 {
     let mut rest = tokens;
     for action in actions {
@@ -177,8 +178,8 @@ pub fn later_list<'a>(
     owner: Option<u32>,
     actions: &[Action],
 ) -> Result<&'a [Spanned], PartStop<EfgKind>>
-    ensures { Parses (λ rest. (tt, kinds rest.now)) result
-        (parse_later_list owner actions.now (kinds tokens.now)) }
+    ensures { Parses (λ rest. (tt, bare rest.now)) result
+        (parse_later_list owner actions.now (bare tokens.now)) }
 {
     let Some(inner) = left(tokens) else {
         return Ok(tokens);

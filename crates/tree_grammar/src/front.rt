@@ -1,5 +1,5 @@
 // The part of a file up to the nodes.
-ghost use Rattle.file_parts.specs.Reading.{kinds};
+ghost use Rattle.game_core.specs.TokenList.{bare};
 ghost use Rattle.file_parts.specs.Parsing.{Parses};
 ghost use Rattle.tree_grammar.specs.TreeParsing.{parse_front};
 
@@ -24,8 +24,8 @@ pub fn read_front(
     alloc: Global,
     tokens: &[Spanned],
 ) -> Result<(Front, &[Spanned]), PartStop<EfgKind>>
-    ensures { Parses (λ x. ((x.0.title, x.0.players.items), kinds x.1.now)) result
-        (parse_front (kinds tokens.now)) }
+    ensures { Parses (λ x. ((x.0.title, x.0.players.items), bare x.1.now)) result
+        (parse_front (bare tokens.now)) }
 {
     let (title, following) = title(tokens, b"EFG", 2, EfgKind::Header)?;
     let title = copied(alloc, title)?;

@@ -3,7 +3,8 @@ ghost use Rattle.std.specs.Prelude.{◌≡◌, ◌<◌, [], Some, if◌then◌el
 ghost use Rattle.std.specs.List.{AllByRecursion};
 ghost use Rattle.game_core.specs.Spacing.{IsShortToken};
 ghost use Rattle.file_parts.specs.declared.stop.PartStop.TheVariants.{Unexpected};
-ghost use Rattle.file_parts.specs.Reading.{kinds, payoff_start};
+ghost use Rattle.game_core.specs.TokenList.{bare};
+ghost use Rattle.file_parts.specs.Reading.{payoff_start};
 ghost use Rattle.file_parts.specs.Parsing.{Parses, parse_each};
 ghost use Rattle.tree_grammar.specs.TreeParsing.{closes, parse_payoff, parse_payoffs_end, parse_first_payoffs, parse_same_payoffs, parse_later_payoffs, parse_named, parse_outcome};
 ghost use Rattle.tree_grammar.specs.declared.kinds.EfgKind.TheVariants.{Node, OutcomeMismatch};
@@ -100,8 +101,8 @@ fn mismatch_or_node(differs: bool) -> EfgKind
 fn no_payoff(tokens: &[Spanned], index: usize) -> PartStop<EfgKind>
     ensures { result
         ≡ Unexpected
-        (if closes (payoff_start index (kinds tokens.now)) then OutcomeMismatch else Node)
-        (length (payoff_start index (kinds tokens.now))) }
+        (if closes (payoff_start index (bare tokens.now)) then OutcomeMismatch else Node)
+        (length (payoff_start index (bare tokens.now))) }
 {
     let start = payoff_start(tokens, index);
     unexpected(mismatch_or_node(right(start).is_some()), start)
@@ -109,7 +110,7 @@ fn no_payoff(tokens: &[Spanned], index: usize) -> PartStop<EfgKind>
 
 // The tokens after the brace that closes payoffs.
 fn closed(tokens: &[Spanned]) -> Result<&[Spanned], PartStop<EfgKind>>
-    ensures { Parses (λ rest. (tt, kinds rest.now)) result (parse_payoffs_end (kinds tokens.now)) }
+    ensures { Parses (λ rest. (tt, bare rest.now)) result (parse_payoffs_end (bare tokens.now)) }
 {
     match right(tokens) {
         Some(rest) => Ok(rest),
@@ -124,8 +125,8 @@ fn payoffs(
     tokens: &[Spanned],
     players: usize,
 ) -> Result<(Vec<Frac>, &[Spanned]), PartStop<EfgKind>>
-    ensures { Parses (λ x. (x.0.items, kinds x.1.now)) result
-        (parse_each parse_payoff 0 players (kinds tokens.now)) }
+    ensures { Parses (λ x. (x.0.items, bare x.1.now)) result
+        (parse_each parse_payoff 0 players (bare tokens.now)) }
 {
     let mut payoffs = Vec::new(alloc);
     let mut rest = tokens;
@@ -146,8 +147,8 @@ fn first_payoffs(
     tokens: &[Spanned],
     players: usize,
 ) -> Result<(Vec<Frac>, &[Spanned]), PartStop<EfgKind>>
-    ensures { Parses (λ x. (x.0.items, kinds x.1.now)) result
-        (parse_first_payoffs players (kinds tokens.now)) }
+    ensures { Parses (λ x. (x.0.items, bare x.1.now)) result
+        (parse_first_payoffs players (bare tokens.now)) }
 {
     let Some(inner) = left(tokens) else {
         return Err(unexpected(EfgKind::OutcomeMismatch, tokens));
@@ -160,8 +161,8 @@ fn first_payoffs(
 // The tokens after payoffs that repeat these.
 #[tactic(auto, using(crate::proofs::OutcomeStepLemmas::repeated_steps))]
 fn repeated<'a>(tokens: &'a [Spanned], payoffs: &[Frac]) -> Result<&'a [Spanned], PartStop<EfgKind>>
-    ensures { Parses (λ rest. (tt, kinds rest.now)) result
-        (parse_same_payoffs 0 payoffs.now (kinds tokens.now)) }
+    ensures { Parses (λ rest. (tt, bare rest.now)) result
+        (parse_same_payoffs 0 payoffs.now (bare tokens.now)) }
 {
     let mut rest = tokens;
     for (index, payoff_before) in payoffs.iter().enumerate() {
@@ -182,8 +183,8 @@ fn later_payoffs<'a>(
     tokens: &'a [Spanned],
     payoffs: &[Frac],
 ) -> Result<&'a [Spanned], PartStop<EfgKind>>
-    ensures { Parses (λ rest. (tt, kinds rest.now)) result
-        (parse_later_payoffs payoffs.now (kinds tokens.now)) }
+    ensures { Parses (λ rest. (tt, bare rest.now)) result
+        (parse_later_payoffs payoffs.now (bare tokens.now)) }
 {
     let Some(inner) = left(tokens) else {
         return Ok(tokens);
@@ -202,8 +203,8 @@ fn first_use<'a>(
 ) -> Result<(KeptOutcome, &'a [Spanned]), PartStop<EfgKind>>
     ensures label { IfOk result (λ x. x.0.label ≡ label) }
     ensures name { IfOk result (λ x. x.0.name ≡ option_map (λ t. t.now) name.entry) }
-    ensures read { Parses (λ x. (x.0.payoffs.items, kinds x.1.now)) result
-        (parse_first_payoffs players (kinds tokens.now)) }
+    ensures read { Parses (λ x. (x.0.payoffs.items, bare x.1.now)) result
+        (parse_first_payoffs players (bare tokens.now)) }
 {
     let (payoffs, rest) = first_payoffs(alloc, tokens, players)?;
     let name = optional_name(alloc, name)?;
@@ -226,8 +227,8 @@ fn later_use<'a>(
     ensures name { OnOk result (outcome.new.name
         ≡ option_or outcome.old.name (option_map (λ t. t.now) name.entry)) }
     ensures payoffs { OnOk result (outcome.new.payoffs.items ≡ outcome.old.payoffs.items) }
-    ensures read { Parses (λ rest. (tt, kinds rest.now)) result
-        (parse_later_payoffs outcome.old.payoffs.items (kinds tokens.now)) }
+    ensures read { Parses (λ rest. (tt, bare rest.now)) result
+        (parse_later_payoffs outcome.old.payoffs.items (bare tokens.now)) }
 {
     let rest = later_payoffs(tokens, outcome.payoffs.as_slice())?;
     if outcome.name.is_none() {
@@ -245,8 +246,8 @@ fn read_named<'a>(
     tokens: &'a [Spanned],
 ) -> Result<(Outcomes, u32, &'a [Spanned]), PartStop<EfgKind>>
     requires few { length outcomes < 4294967295 }
-    ensures { Parses (λ x. ((x.0, Some x.1), kinds x.2.now)) result
-        (parse_named players label outcomes (kinds tokens.now)) }
+    ensures { Parses (λ x. ((x.0, Some x.1), bare x.2.now)) result
+        (parse_named players label outcomes (bare tokens.now)) }
 {
     let (name, following) = optional_text(tokens);
     let Outcomes {
@@ -275,9 +276,9 @@ pub fn read_outcome<'a>(
     tokens: &'a [Spanned],
 ) -> Result<(Outcomes, Option<u32>, &'a [Spanned]), PartStop<EfgKind>>
     requires few { length outcomes < 4294967295 }
-    requires short { AllByRecursion IsShortToken (kinds tokens.now) }
-    ensures { Parses (λ x. ((x.0, x.1), kinds x.2.now)) result
-        (parse_outcome players outcomes (kinds tokens.now)) }
+    requires short { AllByRecursion IsShortToken (bare tokens.now) }
+    ensures { Parses (λ x. ((x.0, x.1), bare x.2.now)) result
+        (parse_outcome players outcomes (bare tokens.now)) }
 {
     let Some((number, rest)) = label(tokens) else {
         return Err(unexpected(EfgKind::Node, tokens));

@@ -2,7 +2,8 @@
 ghost use Rattle.std.specs.Prelude.{◌≡◌};
 ghost use Rattle.std.specs.List.{AllByRecursion};
 ghost use Rattle.game_core.specs.Spacing.{IsShortToken};
-ghost use Rattle.file_parts.specs.Reading.{GivesReading, kinds, count_at};
+ghost use Rattle.game_core.specs.TokenList.{bare};
+ghost use Rattle.file_parts.specs.Reading.{GivesReading, count_at};
 ghost use Rattle.file_parts.specs.Parsing.{Parses};
 ghost use Rattle.tree_grammar.specs.TreePieces.{begins_node, is_node_word};
 ghost use Rattle.tree_grammar.specs.TreeParsing.{parse_player};
@@ -14,8 +15,8 @@ use game_core::Spanned;
 /// A number of at least 1, and the tokens after it.
 #[tactic(auto, using(crate::proofs::LabelLemmas::positives))]
 pub fn positive(tokens: &[Spanned]) -> Option<(u64, &[Spanned])>
-    requires short { AllByRecursion IsShortToken (kinds tokens.now) }
-    ensures { GivesReading (λ x. (x.0, kinds x.1.now)) result (count_at (kinds tokens.now)) }
+    requires short { AllByRecursion IsShortToken (bare tokens.now) }
+    ensures { GivesReading (λ x. (x.0, bare x.1.now)) result (count_at (bare tokens.now)) }
 {
     let (number, rest) = label(tokens)?;
     if number >= 1 {
@@ -29,7 +30,7 @@ pub fn positive(tokens: &[Spanned]) -> Option<(u64, &[Spanned])>
 /// error has the fault's kind, which tells no whole number from one of no player, and how many tokens are left there.
 #[tactic(auto, unfolding(crate::specs::TreeParsing::parse_player))]
 pub fn player(tokens: &[Spanned], players: u32) -> Result<(u32, &[Spanned]), PartStop<EfgKind>>
-    ensures { Parses (λ x. (x.0, kinds x.1.now)) result (parse_player players (kinds tokens.now)) }
+    ensures { Parses (λ x. (x.0, bare x.1.now)) result (parse_player players (bare tokens.now)) }
 {
     let Some((number, rest)) = whole(tokens) else {
         return Err(unexpected(EfgKind::Node, tokens));
@@ -43,7 +44,7 @@ pub fn player(tokens: &[Spanned], players: u32) -> Result<(u32, &[Spanned]), Par
 
 /// Whether the word of a node comes: `c`, `p` or `t`.
 pub fn begins_node(tokens: &[Spanned]) -> bool
-    ensures { result ≡ begins_node (kinds tokens.now) }
+    ensures { result ≡ begins_node (bare tokens.now) }
 {
     match word(tokens) {
         Some((word, _)) => is_node_word(word.bytes()),

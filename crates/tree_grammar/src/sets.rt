@@ -2,7 +2,7 @@
 ghost use Rattle.std.specs.Prelude.{◌≡◌, ◌+◌, ◌<◌, [], ◌∷◌, ◌++◌, not, if◌then◌else◌, length, map, option_map, IfOk, OnOk};
 ghost use Rattle.std.specs.List.{position_or_len, list_any, AllByRecursion};
 ghost use Rattle.game_core.specs.Spacing.{IsShortToken};
-ghost use Rattle.file_parts.specs.Reading.{kinds};
+ghost use Rattle.game_core.specs.TokenList.{bare};
 ghost use Rattle.file_parts.specs.Parsing.{Parses};
 ghost use Rattle.written_trees.specs.Described.{same_set};
 ghost use Rattle.written_trees.specs.Building.{partial_count, finished_set};
@@ -138,8 +138,8 @@ fn first_use<'a>(
     node: u32,
     tokens: &'a [Spanned],
 ) -> Result<(KeptSet, &'a [Spanned]), PartStop<EfgKind>>
-    ensures read { Parses (λ x. (x.0.actions.items, kinds x.1.now)) result
-        (parse_first_list key.owner key.label (kinds tokens.now)) }
+    ensures read { Parses (λ x. (x.0.actions.items, bare x.1.now)) result
+        (parse_first_list key.owner key.label (bare tokens.now)) }
     ensures set { IfOk result
         (λ x. partial_set x.0
         ≡ record {
@@ -171,8 +171,8 @@ fn later_use<'a>(
     node: u32,
     tokens: &'a [Spanned],
 ) -> Result<&'a [Spanned], PartStop<EfgKind>>
-    ensures read { Parses (λ rest. (tt, kinds rest.now)) result
-        (parse_later_list set.old.owner set.old.actions.items (kinds tokens.now)) }
+    ensures read { Parses (λ rest. (tt, bare rest.now)) result
+        (parse_later_list set.old.owner set.old.actions.items (bare tokens.now)) }
     ensures set { OnOk result
         (partial_set set.new
         ≡ record {
@@ -217,9 +217,9 @@ pub fn read_set<'a>(
     tokens: &'a [Spanned],
 ) -> Result<(Sets, u32, &'a [Spanned]), PartStop<EfgKind>>
     requires few { length sets < 4294967295 }
-    requires short { AllByRecursion IsShortToken (kinds tokens.now) }
-    ensures { Parses (λ x. ((x.0, x.1), kinds x.2.now)) result
-        (parse_set node sets owner (kinds tokens.now)) }
+    requires short { AllByRecursion IsShortToken (bare tokens.now) }
+    ensures { Parses (λ x. ((x.0, x.1), bare x.2.now)) result
+        (parse_set node sets owner (bare tokens.now)) }
 {
     let Some((label, following)) = positive(tokens) else {
         return Err(unexpected(EfgKind::Node, tokens));

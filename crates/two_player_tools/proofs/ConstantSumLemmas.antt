@@ -1,15 +1,16 @@
 -- The payoffs at the leaves of a form with a program sum to the same number.
-use Rattle.std.proofs.Common.{ℕ, zero, suc, ◌<◌, ◌≡◌, ◌∙◌, inl, inr, sym, ap, subst, refl, arith, All, List, [], ◌∷◌, map, length, get_or, Option, None, Some, Ok}
+use Rattle.std.proofs.Common.{ℕ, zero, suc, ◌+◌, ◌<◌, ◌≤◌, ◌≡◌, ◌∙◌, inl, inr, sym, ap, subst, arith, All, List, [], ◌∷◌, map, length, get_or, Option, None, Some, Ok}
+use Rattle.std.specs.Prelude.{if◌then◌else◌, filter, is_none}
+use Rattle.std.specs.List.{range_with_len}
 use Rattle.std.proofs.lemmas.List.Elements.{All-get_or, All-head, All-tail}
 use Rattle.std.proofs.lemmas.List.FromFn.{length-map-range_with_len, get_or-map-range_with_len}
-use Rattle.std.proofs.lemmas.Bool.{cases_lt}
+use Rattle.std.proofs.lemmas.Bool.{cases_eq}
 use Rattle.rational.specs.Rational.{ℚ}
 use Rattle.game_theory.specs.Profiles.{profile_count, number_of}
 use Rattle.game_theory.proofs.ProfileNumberLemmas.{number_of-below}
 use Rattle.game_theory.specs.Trees.{Tree}
 use Rattle.game_core.specs.Table.{GameTable, IsTable, game_of, strategy_counts}
 use Rattle.sequence_forms.specs.Forms.{LeavesSumTo, form_of_table}
-use Rattle.sequence_forms.specs.Lists.{leaf_first, leaves_below}
 use Rattle.sequence_forms.specs.Prices.{HasConstantSum}
 use Rattle.sequence_forms.proofs.SignLemmas.{table_cells}
 use Rattle.sequence_data.specs.Data.{FormData, IsFormData}
@@ -34,31 +35,22 @@ sums_to f none w h = All-get_or (λ l. All (λ k. sum_at k ≡ sum_at l) f.leave
 
 -- ---- trees
 -- what holds of each leaf that is listed holds of each leaf
-leaves_hold : (t : Tree) (P : Leaf → Type 0) (n : ℕ) (later : List ℕ) → All P (map (leaf_at t) (leaves_below t n later)) → All P (map (leaf_at t) later) × ((k : ℕ) → k < n → t.set k ≡ None → P (leaf_at t k))
-leaves_hold t P zero later h = (h, λ k l e. absurd (omega (arith, l)))
-leaves_hold t P (suc n) later h = let below = leaves_hold t P n (leaf_first (t.set n) n later) h in go (t.set n) refl below.0 below.1
+leaves_hold : (t : Tree) (P : Leaf → Type 0) (m n : ℕ) → All P (map (leaf_at t) (filter (λ k. is_none (t.set k)) (range_with_len m n))) → (k : ℕ) → m ≤ k → k < m + n → t.set k ≡ None → P (leaf_at t k)
+leaves_hold t P m zero h k from below e = absurd (omega (arith, from, below))
+leaves_hold t P m (suc n) h k from below e = elim (cases_eq m k) [
+  | inl same ↦ subst (λ j. P (leaf_at t j)) same (All-head P (leaf_at t m) (map (leaf_at t) later) (subst (λ o. All P (map (leaf_at t) (if is_none o then m ∷ later else later))) (ap t.set same ∙ e) h))
+  | inr other ↦ leaves_hold t P (m + 1) n (past (t.set m) h) k (omega arith) (omega arith) e
+]
   where
-    none_some : (s : ℕ) → Some s ≡ None → ⊥
-    none_some s e = cc
+    later : List ℕ
+    later = filter (λ k. is_none (t.set k)) (range_with_len (m + 1) n)
 
-    go : (o : Option ℕ) → t.set n ≡ o → All P (map (leaf_at t) (leaf_first o n later)) → ((k : ℕ) → k < n → t.set k ≡ None → P (leaf_at t k)) → All P (map (leaf_at t) later) × ((k : ℕ) → k < suc n → t.set k ≡ None → P (leaf_at t k))
-    go None is all below = (
-      All-tail P (leaf_at t n) (map (leaf_at t) later) all,
-      λ k l e. elim (cases_lt k n) [
-        | inl less ↦ below k less e
-        | inr same ↦ subst (λ m. P (leaf_at t m)) (let q : n ≡ k = omega (arith, l, same) in q) (All-head P (leaf_at t n) (map (leaf_at t) later) all)
-      ],
-    )
-    go (Some s) is all below = (
-      all,
-      λ k l e. elim (cases_lt k n) [
-        | inl less ↦ below k less e
-        | inr same ↦ absurd (none_some s (sym is ∙ ap t.set (let q : n ≡ k = omega (arith, l, same) in q) ∙ e))
-      ],
-    )
+    past : (o : Option ℕ) → All P (map (leaf_at t) (if is_none o then m ∷ later else later)) → All P (map (leaf_at t) later)
+    past None all = All-tail P (leaf_at t m) (map (leaf_at t) later) all
+    past (Some s) all = all
 
 pub tree_sums : (t : Tree) (f : FormData) (c : ℚ) → IsTreeForm t f → SumsTo f.leaves c → LeavesSumTo t c
-tree_sums t f c h sums k l e = (leaves_hold t (λ d. sum_at d ≡ c) t.size [] (subst (λ (ls : List Leaf). SumsTo ls c) h.leaves_are sums)).1 k l e
+tree_sums t f c h sums k l e = leaves_hold t (λ d. sum_at d ≡ c) 0 t.size (subst (λ (ls : List Leaf). SumsTo ls c) h.leaves_are sums) k (omega arith) (omega arith) e
 
 -- ---- tables
 profile_sums : (t : GameTable) (c : ℚ) (k : ℕ) → SumsTo (table_leaves t) c → k < profile_count (strategy_counts t) → sum_at (profile_leaf t k) ≡ c

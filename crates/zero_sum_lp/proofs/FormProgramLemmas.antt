@@ -2,7 +2,7 @@
 use Rattle.std.proofs.Common.{◌<◌, ◌≡◌, Result, Ok, Err, inl, inr, refl, ap, ap₂}
 use Rattle.answers.specs.Answers.{Answer, Gives, ◌>>◌, refused_by}
 use Rattle.answers.proofs.AnswerLemmas.{gives_bind, gives_first}
-use Rattle.lex_tableau.specs.Starts.{Parts}
+use Rattle.lex_tableau.specs.Starts.{LinearSystem}
 use Rattle.lex_tableau.specs.StartStops.{start_in}
 use Rattle.lex_tableau.specs.declared.tableau.StartStop.{StartStop}
 use Rattle.lex_tableau.specs.declared.tableau.StartStop.TheVariants as starts
@@ -24,7 +24,7 @@ leave : (p : Answer LpStop (Unit {0})) (q : Answer LpStop Program) (r : LpStop) 
 leave p q r g = gives_first {Z = Program} stops.Memory p (λ _. q) r g
 
 -- ---- the start
-module _ (f : FormData) (s : Parts) (is_system : IsSystemOf f s) where
+module _ (f : FormData) (s : LinearSystem) (is_system : IsSystemOf f s) where
   pub start_stop : (stop : StartStop) → Gives starts.Memory (start_in s) (Err stop) → Gives stops.Memory (form_start_in f) (Err (told_start stop))
   start_stop stop (inl m) = inl (ap told_start m)
   start_stop stop (inr h) = inr (inl (stop, (s, (is_system, h)), refl))

@@ -9,7 +9,7 @@ use Rattle.rational.proofs.Ring.{ring, num, ◌:+◌, ◌:-◌, ◌:*◌, A, B, 
 use Rattle.linear_systems.specs.Rows.{Alike}
 use Rattle.zero_sum_lp.specs.Programs.{constraints, program_of, reply_cell}
 use Rattle.linear_systems.proofs.AgreementLemmas.{alike_trans}
-use Rattle.lex_tableau.specs.Starts.{Parts, system_of}
+use Rattle.lex_tableau.specs.Starts.{LinearSystem, system_of}
 use Rattle.game_core.specs.Limits.{most_rows}
 use Rattle.sequence_forms.specs.Lists.{listed_at}
 use Rattle.sequence_forms.specs.Prices.{gains}
@@ -77,7 +77,7 @@ module _ (f : FormData) (valid : IsFormData f) where
   gains_are numbers matrix e holds r q hr hq =
       ap (λ n. get_or matrix (r * n + q) zero_ℚ) (sym second_count) ∙ holds r q (subst (λ n. r < n) (sym first_count) hr) (subst (λ n. q < n) (sym second_count) hq) ∙ ap (λ xs. listed_at (placed f.cells xs) r q) e ∙ placed_gains f.least_one f.cells r q
 
-  pub system_has_gains : (numbers matrix : List ℚ) (s : Parts) → numbers ≡ map (gain_at f.least_one) f.cells → HoldsNumbers f.first.sequences f.second.sequences (placed f.cells numbers) matrix → IsSystemFor f.first f.second (number_at matrix (sequences (side_of f.second))) s → IsSystemOf f s
+  pub system_has_gains : (numbers matrix : List ℚ) (s : LinearSystem) → numbers ≡ map (gain_at f.least_one) f.cells → HoldsNumbers f.first.sequences f.second.sequences (placed f.cells numbers) matrix → IsSystemFor f.first f.second (number_at matrix (sequences (side_of f.second))) s → IsSystemOf f s
   system_has_gains numbers matrix s e holds w =
       record {
         valid = w.valid;
@@ -96,7 +96,7 @@ module _ (f : FormData) (valid : IsFormData f) (cells : List Cell) (x y : ℕ) (
   pub inside_read : All (IsInside x y) cells
   inside_read = subst (λ xs. All (IsInside x y) xs) (sym ec) (subst₂ (λ a b. All (IsInside a b) f.cells) (sym ex) (sym ey) (cells_inside f valid))
 
-  pub system_read : {R : Type 0} (r : Result Parts R) (first second : SideData) (numbers matrix seen : List ℚ) → first ≡ f.first → second ≡ f.second → seen ≡ matrix → numbers ≡ map (gain_at f.least_one) f.cells → HoldsNumbers x y (placed cells numbers) matrix
+  pub system_read : {R : Type 0} (r : Result LinearSystem R) (first second : SideData) (numbers matrix seen : List ℚ) → first ≡ f.first → second ≡ f.second → seen ≡ matrix → numbers ≡ map (gain_at f.least_one) f.cells → HoldsNumbers x y (placed cells numbers) matrix
       → IfOk r (IsSystemFor first second (number_at seen (sequences (side_of second)))) → IfOk r (IsSystemOf f)
   system_read r first second numbers matrix seen e g h n holds w =
       let held : HoldsNumbers f.first.sequences f.second.sequences (placed f.cells numbers) matrix = subst₂ (λ a b. HoldsNumbers a b (placed f.cells numbers) matrix) ex ey (subst (λ xs. HoldsNumbers x y (placed xs numbers) matrix) ec holds) in
@@ -104,6 +104,6 @@ module _ (f : FormData) (valid : IsFormData f) (cells : List Cell) (x y : ℕ) (
       if_ok-then r _ (IsSystemOf f) found (λ s k. system_has_gains f valid numbers matrix s n held k)
 
 -- the system of a form for sides that are its own
-pub for_sides : (f : FormData) (s : Parts) (first second : SideData) → first ≡ f.first → second ≡ f.second → IsSystemOf f s → (gain : ℕ → ℕ → ℚ) × IsSystemFor first second gain s
+pub for_sides : (f : FormData) (s : LinearSystem) (first second : SideData) → first ≡ f.first → second ≡ f.second → IsSystemOf f s → (gain : ℕ → ℕ → ℚ) × IsSystemFor first second gain s
 for_sides f s first second e g h =
     (gains (form f) f.least_one, subst₂ (λ a b. IsSystemFor a b (gains (form f) f.least_one) s) (sym e) (sym g) h)

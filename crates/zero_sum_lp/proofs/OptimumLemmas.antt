@@ -9,7 +9,7 @@ use Rattle.zero_sum_lp.proofs.BoundedObjectiveLemmas.{programs_linear}
 use Rattle.zero_sum_lp.proofs.DeterminedPathLemmas.{after_on_path}
 use Rattle.zero_sum_lp.proofs.ObjectiveGrowthLemmas.{IsLexicographicallyFeasible}
 use Rattle.zero_sum_lp.proofs.ProgramLemmas.{basic_last}
-use Rattle.lex_tableau.specs.Rows.{Numbers, tableau}
+use Rattle.lex_tableau.specs.Rows.{WholeTableau, tableau}
 use Rattle.sequence_data.specs.Data.{SideData, side_of}
 use Rattle.zero_sum_lp.specs.Parts.{HasShape, Program, IsProgram, IsOptimum}
 use Rattle.zero_sum_lp.specs.ExactPaths.{linear_program, IsProgramStart}
@@ -43,7 +43,7 @@ module _ (o : Program) (h : IsOptimum o) where
       ∙ basic_last (side_of o.first) (side_of o.second) h.begins.gain (constraints (side_of o.first) (side_of o.second)) (omega arith)
 
 -- ---- for the readers
-module _ (o : Program) (h : IsOptimum o) (seen : Numbers) (e : seen ≡ o.tableau) (objective width : ℕ) (s : HasShape o.first o.second objective width) where
+module _ (o : Program) (h : IsOptimum o) (seen : WholeTableau) (e : seen ≡ o.tableau) (objective width : ℕ) (s : HasShape o.first o.second objective width) where
   pub read_row : objective < length seen.basics
   read_row = subst (λ n. objective < length n.basics) (sym e) (let r = end_rows o h in let m : objective ≡ constraints (side_of o.first) (side_of o.second) = s.rows in omega arith)
 
@@ -66,9 +66,9 @@ second_variable first second objective width len k s e =
     let n = sets_are second in
     omega arith
 
-module _ (o : Program) (h : IsOptimum o) (seen : Numbers) (e : seen ≡ o.tableau) (objective width : ℕ) (s : HasShape o.first o.second objective width) (k : ℕ) (q : ℚ) where
+module _ (o : Program) (h : IsOptimum o) (seen : WholeTableau) (e : seen ≡ o.tableau) (objective width : ℕ) (s : HasShape o.first o.second objective width) (k : ℕ) (q : ℚ) where
   pub first_price_is : q ≡ coefficient (tableau seen) objective (k + 1) → q ≡ price_one (side_of o.first) (side_of o.second) (tableau o.tableau) k
   first_price_is f = f ∙ ap (λ n. coefficient (tableau n) objective (k + 1)) e ∙ ap (λ m. coefficient (tableau o.tableau) m (k + 1)) s.rows ∙ ap (coefficient (tableau o.tableau) (constraints (side_of o.first) (side_of o.second))) (add-one k)
 
   pub second_price_is : (v : ℕ) → v ≡ suc (constraints (side_of o.first) (side_of o.second) + (sequences (side_of o.first) + k)) → q ≡ basic_solution (tableau seen) v → q ≡ price_two (side_of o.first) (side_of o.second) (tableau o.tableau) k
-  second_price_is v f w = w ∙ ap₂ (λ (n : Numbers) (u : ℕ). basic_solution (tableau n) u) e f
+  second_price_is v f w = w ∙ ap₂ (λ (n : WholeTableau) (u : ℕ). basic_solution (tableau n) u) e f

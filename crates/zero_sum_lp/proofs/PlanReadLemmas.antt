@@ -5,7 +5,7 @@ use Rattle.rational.specs.Rational.{ℚ, zero_ℚ}
 use Rattle.linear_systems.specs.Rows.{basic_solution, coefficient}
 use Rattle.linear_systems.proofs.LexRowLemmas.{below_cases}
 use Rattle.frac128.specs.Steps.{Step}
-use Rattle.lex_tableau.specs.Rows.{Numbers, tableau}
+use Rattle.lex_tableau.specs.Rows.{WholeTableau, tableau}
 use Rattle.sequence_forms.specs.Sides.{sequences}
 use Rattle.sequence_data.specs.Data.{IsSideData, SideData, side_of}
 use Rattle.rational.specs.Sum.{entry_at}
@@ -27,11 +27,11 @@ weights_push n x xs ys v w e q =
       ];
     })
 
-module _ (o : Program) (h : IsOptimum o) (seen : Numbers) (e : seen ≡ o.tableau) (objective width : ℕ) (s : HasShape o.first o.second objective width) (k : ℕ) (q : ℚ) where
+module _ (o : Program) (h : IsOptimum o) (seen : WholeTableau) (e : seen ≡ o.tableau) (objective width : ℕ) (s : HasShape o.first o.second objective width) (k : ℕ) (q : ℚ) where
   pub raw_one_is : q ≡ basic_solution (tableau seen) (objective + k + 1) → q ≡ raw_one (side_of o.first) (side_of o.second) (tableau o.tableau) k
   raw_one_is w =
       let m : objective ≡ constraints (side_of o.first) (side_of o.second) = s.rows in
-      w ∙ ap₂ (λ (n : Numbers) (u : ℕ). basic_solution (tableau n) u) e (omega arith)
+      w ∙ ap₂ (λ (n : WholeTableau) (u : ℕ). basic_solution (tableau n) u) e (omega arith)
 
   pub raw_two_is : (v : ℕ) → v ≡ suc (suc (side_of o.first).sets + k) → q ≡ coefficient (tableau seen) objective v → q ≡ raw_two (side_of o.first) (side_of o.second) (tableau o.tableau) k
   raw_two_is v f w = w ∙ ap (λ n. coefficient (tableau n) objective v) e ∙ ap (λ m. coefficient (tableau o.tableau) m v) s.rows ∙ ap (coefficient (tableau o.tableau) (constraints (side_of o.first) (side_of o.second))) f

@@ -33,6 +33,11 @@ module _ (is_plan : List ℚ → Type 0) (steps : List ℚ → List Step) where
   pub plan_in-value : (plan : List ℚ) → plan_in is_plan steps (Ok plan) → is_plan plan
   plan_in-value plan (made, p, (_, _, e)) = (let same : made ≡ plan = cc (e) in subst is_plan same p)
 
+  pub plan_in-unfit : (u : Step) → plan_in is_plan steps (Err u) → ¬ (StepFits u)
+  plan_in-unfit u (inl h) = absurd h
+  plan_in-unfit u (inr (_, _, inl h)) = h.does_not_fit
+  plan_in-unfit u (inr (_, _, inr (_, _, h))) = cc
+
   -- another property and its steps
   plan_in-as : (other : List ℚ → Type 0) (others : List ℚ → List Step) (answer : Result (List ℚ) Step) → ((plan : List ℚ) → is_plan plan → other plan) → ((plan : List ℚ) → steps plan ≡ others plan) → plan_in is_plan steps answer → plan_in other others answer
   plan_in-as other others (Ok made) turn same (plan, p, (_, f, e)) = (plan, turn plan p, (tt, subst (All StepFits) (same plan) f, e))

@@ -7,18 +7,18 @@ use Rattle.zero_sum_lp.specs.Programs.{constraints, program_of, IsProgramOf}
 use Rattle.zero_sum_lp.specs.ExactPaths.{linear_program}
 use Rattle.linear_systems.proofs.AgreementLemmas.{alike_trans}
 use Rattle.game_core.specs.Limits.{most_rows}
-use Rattle.lex_tableau.specs.Rows.{Numbers, tableau, IsTableau}
-use Rattle.lex_tableau.specs.Starts.{Parts, system_of, IsStartOf}
+use Rattle.lex_tableau.specs.Rows.{WholeTableau, tableau, IsTableau}
+use Rattle.lex_tableau.specs.Starts.{LinearSystem, system_of, IsStartOf}
 use Rattle.sequence_data.specs.Data.{SideData, side_of}
 use Rattle.zero_sum_lp.specs.Parts.{IsStartFor, HasShape}
 use Rattle.zero_sum_lp.specs.Systems.{IsSystemFor}
 use Rattle.zero_sum_lp.proofs.OptimumLemmas.{sets_are}
 
-pub program_is : (first second : SideData) (gain : ℕ → ℕ → ℚ) (s : Parts) (n : Numbers) → Alike (program_of (side_of first) (side_of second) gain) (system_of s) → s.rated ≡ constraints (side_of first) (side_of second) → IsStartOf s n → IsProgramOf (side_of first) (side_of second) gain (linear_program n)
+pub program_is : (first second : SideData) (gain : ℕ → ℕ → ℚ) (s : LinearSystem) (n : WholeTableau) → Alike (program_of (side_of first) (side_of second) gain) (system_of s) → s.rated ≡ constraints (side_of first) (side_of second) → IsStartOf s n → IsProgramOf (side_of first) (side_of second) gain (linear_program n)
 program_is first second gain s n a r h =
     record { rated = h.rated ∙ r; start = alike_trans (program_of (side_of first) (side_of second) gain) (system_of s) (tableau n) a h.fractions; bound = omega arith }
 
-pub starts_for : (first second : SideData) (s : Parts) (n : Numbers) (gain : ℕ → ℕ → ℚ) → IsSystemFor first second gain s → IsStartOf s n → IsTableau n → IsStartFor first second n
+pub starts_for : (first second : SideData) (s : LinearSystem) (n : WholeTableau) (gain : ℕ → ℕ → ℚ) → IsSystemFor first second gain s → IsStartOf s n → IsTableau n → IsStartFor first second n
 starts_for first second s n gain p h valid =
     record {
       gain = gain;

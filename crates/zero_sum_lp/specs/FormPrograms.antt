@@ -4,8 +4,8 @@ use Rattle.answers.specs.Answers.{Answer, ◌>>=◌, ◌>>◌, only, IsSingle, r
 use Rattle.rational.specs.Rational.{ℚ, ◌+ℚ◌, ◌-ℚ◌, ◌*ℚ◌}
 use Rattle.frac128.specs.Steps.{unfit, Step}
 use Rattle.frac128.specs.declared.steps.Op.TheVariants.{Add, Sub, Mul}
-use Rattle.lex_tableau.specs.Rows.{Numbers}
-use Rattle.lex_tableau.specs.Starts.{Parts}
+use Rattle.lex_tableau.specs.Rows.{WholeTableau}
+use Rattle.lex_tableau.specs.Starts.{LinearSystem}
 use Rattle.lex_tableau.specs.StartStops.{start_of}
 use Rattle.lex_tableau.specs.declared.tableau.StartStop.{StartStop}
 use Rattle.lex_tableau.specs.declared.tableau.StartStop.TheVariants as starts
@@ -79,11 +79,11 @@ gains_in least cells =
 
 -- ---- the start
 -- the system of the program of a form
-abbrev pub IsSystemOf : FormData → Parts → Type 0
+abbrev pub IsSystemOf : FormData → LinearSystem → Type 0
 IsSystemOf f s = IsSystemFor f.first f.second (gains (form f) f.least_one) s
 
 -- the program of a form's sides with this start
-abbrev pub with_start : FormData → Numbers → Program
+abbrev pub with_start : FormData → WholeTableau → Program
 with_start f n = record { first = f.first; second = f.second; tableau = n }
 
 -- a stop of the start as one of the program

@@ -5,14 +5,14 @@ use Rattle.game_core.specs.Limits.{most_rows}
 use Rattle.sequence_forms.specs.Sides.{Side}
 use Rattle.sequence_data.specs.Data.{SideData, side_of, IsSideData}
 use Rattle.zero_sum_lp.specs.Programs.{constraints, columns_of, IsProgramOf, price_one, price_two, raw_one, raw_two}
-use Rattle.lex_tableau.specs.Rows.{Numbers, IsTableau, tableau}
+use Rattle.lex_tableau.specs.Rows.{WholeTableau, IsTableau, tableau}
 use Rattle.zero_sum_lp.specs.ExactPaths.{linear_program, EndsPath}
 
 -- both players' sides, and a tableau: of a program the start, and of an optimum the end of the path
 pub record Program : Type 0 where
   pub first : SideData
   pub second : SideData
-  pub tableau : Numbers
+  pub tableau : WholeTableau
 
 -- ---- what stands in the tableau
 -- the prices of both players
@@ -35,7 +35,7 @@ abbrev pub program_size : Side → Side → ℕ
 program_size rows columns = constraints rows columns + columns_of rows columns
 
 -- a tableau is the start of the program of these sides, for some gains
-pub record IsStartFor (first second : SideData) (n : Numbers) : Type 0 where
+pub record IsStartFor (first second : SideData) (n : WholeTableau) : Type 0 where
   pub gain : ℕ → ℕ → ℚ
   pub basics : (i : ℕ) → i < n.rated → get_or n.starts i 0 ≡ get_or n.basics i 0
   pub program : IsProgramOf (side_of first) (side_of second) gain (linear_program n)
@@ -64,6 +64,6 @@ pub record HasShape (first second : SideData) (objective width : ℕ) : Type 0 w
 pub record IsOptimum (o : Program) : Type 0 where
   pub first : IsSideData o.first
   pub second : IsSideData o.second
-  pub start : Numbers
+  pub start : WholeTableau
   pub begins : IsStartFor o.first o.second start
   pub path : EndsPath start o.tableau

@@ -4,7 +4,7 @@ use Rattle.rational.specs.Rational.{ℚ}
 use Rattle.linear_systems.specs.Rows.{Alike}
 use Rattle.linear_systems.specs.Tableau.{Tableau}
 use Rattle.zero_sum_lp.specs.Programs.{constraints, program_of, reply_cell}
-use Rattle.lex_tableau.specs.Starts.{Parts, system_of, IsSystem}
+use Rattle.lex_tableau.specs.Starts.{LinearSystem, system_of, IsSystem}
 use Rattle.sequence_data.specs.Data.{SideData, side_of}
 use Rattle.sequence_data.specs.Matrices.{number_at}
 use Rattle.sequence_forms.specs.Sides.{sequences}
@@ -22,7 +22,8 @@ listed_reply first second gains =
     reply_cell (side_of first) (side_of second) (number_at gains (sequences (side_of second)))
 
 -- the system of the program of these sides with these gains
-pub record IsSystemFor (first second : SideData) (gain : ℕ → ℕ → ℚ) (s : Parts) : Type 0 where
+pub record IsSystemFor (first second : SideData) (gain : ℕ → ℕ → ℚ)
+    (s : LinearSystem) : Type 0 where
   pub valid : IsSystem s
   pub program : Alike (program_of (side_of first) (side_of second) gain) (system_of s)
   pub rated : s.rated ≡ constraints (side_of first) (side_of second)

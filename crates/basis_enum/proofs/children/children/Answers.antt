@@ -5,8 +5,8 @@ use Rattle.basis_enum.proofs.NextLevelLemmas.{made_start}
 use Rattle.basis_enum.proofs.WalkLemmas.{vertices_start}
 use Rattle.basis_enum.proofs.children.children.Goals as goal
 
-pub loop-alloc-init : goal.loop-alloc-init
-loop-alloc-init g c =
+pub loop-made-init : goal.loop-made-init
+loop-made-init g c =
     let s = c.args.expansion.now.system.now in
     let vertices = c.args.vertices.now.items in
     let none = c.in_ok-with_capacity.ensures.items in
@@ -16,18 +16,18 @@ loop-alloc-init g c =
       counted = omega (arith, ap length none);
     }
 
-pub loop-alloc-preserved : goal.loop-alloc-preserved
-loop-alloc-preserved g c =
-    let is = c.loop-alloc.invariant in
+pub loop-made-preserved : goal.loop-made-preserved
+loop-made-preserved g c =
+    let is = c.loop-made.invariant in
     let more = c.in_ok-make_more.ensures in
     record { made = more.made; vertices = more.vertices _ is.vertices; counted = omega (arith, more.counted, is.counted) }
 
 pub returns-clause-children : goal.returns-clause-children
 returns-clause-children g c =
     let e = c.args.expansion.now in
-    let made = c.loop-alloc.invariant.made.tableaux in
-    let all : length c.loop-alloc.made.tableaux.items ≡ length e.pivots.now = omega (arith, made.within, c.loop-alloc-test.false, c.len.ensures, c.loop-alloc.made.tableaux.ok.0) in
-    subst (λ n. AreChildren e.level.now e.pivots.now n c.loop-alloc.made.tableaux.items) all made
+    let made = c.loop-made.invariant.made.tableaux in
+    let all : length c.loop-made.made.tableaux.items ≡ length e.next.now = omega (arith, made.within, c.loop-made-test.false, c.len.ensures, c.loop-made.made.tableaux.ok.0) in
+    subst (λ n. AreChildren e.level.now e.next.now n c.loop-made.made.tableaux.items) all made
 
 pub returns-clause-vertices : goal.returns-clause-vertices
-returns-clause-vertices g c = c.loop-alloc.invariant.vertices
+returns-clause-vertices g c = c.loop-made.invariant.vertices

@@ -15,8 +15,8 @@ loop-place-preserved g c =
     let size = ap length added.tableaux ∙ length-append old.tableaux.items (r.tableau ∷ []) in
     record {
       at = omega (arith, size, is.at);
-      made = made_more c.args.expansion.now old _ n r is.at (omega (arith, c.min-end.ensures)) added.tableaux added.pivots is.made c.in_ok-reached.ensures;
-      vertices = adding_more c.args.expansion.now.system.now c.args.made.now.tableaux.items old.tableaux.items _ r.tableau c.args.vertices.now.items c.loop-place.vertices.items _ r.found.vertex added.tableaux added.vertices is.vertices c.in_ok-reached.ensures.vertex;
+      made = made_more c.args.expansion.now old _ n r is.at (omega (arith, c.min-end.ensures)) added.tableaux added.found is.made c.in_ok-reached.ensures;
+      vertices = adding_more c.args.expansion.now.system.now c.args.made.now.tableaux.items old.tableaux.items _ r.tableau c.args.vertices.now.items c.loop-place.vertices.items _ r.findings.vertex added.tableaux added.vertices is.vertices c.in_ok-reached.ensures.vertex;
       counted = omega (arith, c.tick.ensures, is.counted, size);
     }
 

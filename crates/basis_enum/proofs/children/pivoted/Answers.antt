@@ -7,4 +7,4 @@ use Rattle.basis_enum.proofs.children.pivoted.Goals as goal
 
 pub returns-clause-child : goal.returns-clause-child
 returns-clause-child g c =
-    made_child c.args.level.now (pivot_of c.args.next.now) c.index-level-next.result c.pivoted.result (c.index-level-next.is ∙ get_or_default c.args.level.now c.args.next.now.parent c.index-level-next.result no_tableau c.requires.next.parent) c.pivoted.ensures.pivot c.pivoted.ensures.valid c.pivoted.ensures.fits
+    made_child c.args.level.now (pivot_of c.args.pivot.now) c.index-level-pivot.result c.pivoted.result (c.index-level-pivot.is ∙ get_or_default c.args.level.now c.args.pivot.now.parent c.index-level-pivot.result no_tableau c.requires.pivot.parent) c.pivoted.ensures.pivot c.pivoted.ensures.valid c.pivoted.ensures.fits

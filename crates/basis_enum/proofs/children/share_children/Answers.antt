@@ -35,7 +35,7 @@ loop-piece-preserved g c =
     let pieces = c.in_ok-pieces.pieces in
     let gives = c.into_iter-piece-iterator.ensures.into_iter_gives in
     let turn = YieldsList-turn (YieldsList-from_vec pieces.items gives.0 (gives.1 ∙ pieces.ok.0)) c.loop-piece.yielded c.loop-piece.piece-iterator c.loop-piece.yielded_by c.next.result c.next.new.self c.in-Some.piece c.in-Some.is c.next.ensures.steps in
-    let below : c.len.result < length e.pivots.now = omega (arith, turn.0, c.in_ok-pieces.ensures.size, c.len.ensures, old.tableaux.ok.0, is.at, c.len-first.ensures, c.args.made.now.tableaux.ok.0) in
+    let below : c.len.result < length e.next.now = omega (arith, turn.0, c.in_ok-pieces.ensures.size, c.len.ensures, old.tableaux.ok.0, is.at, c.len-first.ensures, c.args.made.now.tableaux.ok.0) in
     let r = c.in_ok-reached.reached in
     let reached = c.in_ok-reached.ensures in
     let added = c.in_ok-add_reached.ensures in
@@ -43,8 +43,8 @@ loop-piece-preserved g c =
     let one = length-append c.loop-piece.yielded (c.in-Some.piece ∷ []) in
     record {
       at = omega (arith, size, is.at, one);
-      made = made_more e old _ c.len.result r (omega (arith, c.len.ensures, old.tableaux.ok.0)) below added.tableaux added.pivots is.made reached;
-      vertices = adding_more e.system.now c.args.made.now.tableaux.items old.tableaux.items _ r.tableau c.args.vertices.now.items c.loop-piece.vertices.items _ r.found.vertex added.tableaux added.vertices is.vertices reached.vertex;
+      made = made_more e old _ c.len.result r (omega (arith, c.len.ensures, old.tableaux.ok.0)) below added.tableaux added.found is.made reached;
+      vertices = adding_more e.system.now c.args.made.now.tableaux.items old.tableaux.items _ r.tableau c.args.vertices.now.items c.loop-piece.vertices.items _ r.findings.vertex added.tableaux added.vertices is.vertices reached.vertex;
       counted = omega (arith, c.tick.ensures, is.counted, size);
     }
 

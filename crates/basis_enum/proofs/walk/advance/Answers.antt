@@ -87,5 +87,5 @@ returns-clause-walk g c =
     let children = subst (λ l. AreChildren l c.args.next.now (length c.args.next.now) c.in_ok-level.level.items) c.as_slice-2.ensures.value c.in_ok-level.ensures.children in
     let merged = subst (λ xs. IsMerged xs (map target_of c.args.next.now) c.in_ok-known.known.items) c.as_slice.ensures.value c.in_ok-known.ensures.merged in
     rw (c.replace.ensures.after)
-    (walk_next c.args.system.now c.args.number c.args.walk.now (record { level = c.in_ok-level.level; known = c.in_ok-known.known; vertices = c.next_level.new.vertices }) c.args.next.now (map target_of c.args.next.now)
+    (walk_next c.args.system.now c.args.number c.args.walk.now (record { level = c.in_ok-level.level; known = c.in_ok-known.known; vertices = c.next_level.new.vertices; spent = c.add.new.self }) c.args.next.now (map target_of c.args.next.now)
     c.requires.enumerable c.requires.walk c.requires.next c.requires.some few children refl merged c.in_ok-level.ensures.vertices)

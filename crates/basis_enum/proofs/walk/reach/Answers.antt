@@ -8,26 +8,26 @@ use Rattle.basis_enum.proofs.walk.reach.Goals as goal
 
 pub overflow_add-number : goal.overflow_add-number
 overflow_add-number g c =
-    let early : c.loop-alloc.number < most_bases = walk_early c.args.system.now c.loop-alloc.number c.loop-alloc.walk c.loop-alloc.invariant.walk in
+    let early : c.loop-walk.number < most_bases = walk_early c.args.system.now c.loop-walk.number c.loop-walk.walk c.loop-walk.invariant.walk in
     omega arith
 
-pub loop-alloc-smaller : goal.loop-alloc-smaller
-loop-alloc-smaller g c =
-    let early : c.loop-alloc.number < most_bases = walk_early c.args.system.now c.loop-alloc.number c.loop-alloc.walk c.loop-alloc.invariant.walk in
+pub loop-walk-smaller : goal.loop-walk-smaller
+loop-walk-smaller g c =
+    let early : c.loop-walk.number < most_bases = walk_early c.args.system.now c.loop-walk.number c.loop-walk.walk c.loop-walk.invariant.walk in
     omega arith
 
 pub returns-clause-walk : goal.returns-clause-walk
 returns-clause-walk g c =
-    let w = c.loop-alloc.walk in
-    let test = c.loop-alloc-test.ensures in
-    let empty : length c.loop-alloc.next.items ≡ 0 = grind (arith, nat_tests, c.loop-alloc.next.ok.0) in
+    let w = c.loop-walk.walk in
+    let test = c.loop-walk-test.ensures in
+    let empty : length c.loop-walk.next.items ≡ 0 = grind (arith, nat_tests, c.loop-walk.next.ok.0) in
     record {
-      number = c.loop-alloc.number;
-      walk = c.loop-alloc.invariant.walk;
-      none = subst (AreNewPivots w.level.items w.known.items) (nil_from_length c.loop-alloc.next.items empty) c.loop-alloc.invariant.next;
+      number = c.loop-walk.number;
+      walk = c.loop-walk.invariant.walk;
+      none = subst (AreNewPivots w.level.items w.known.items) (nil_from_length c.loop-walk.next.items empty) c.loop-walk.invariant.next;
     }
 
 pub returns-clause-bounded : goal.returns-clause-bounded
 returns-clause-bounded g c =
-    let few : length c.loop-alloc.walk.known.items ≤ most_bases = walk_few c.args.system.now c.loop-alloc.number c.loop-alloc.walk c.loop-alloc.invariant.walk in
-    omega (arith, c.loop-alloc.invariant.count)
+    let few : length c.loop-walk.walk.known.items ≤ most_bases = walk_few c.args.system.now c.loop-walk.number c.loop-walk.walk c.loop-walk.invariant.walk in
+    omega (arith, c.loop-walk.invariant.count)

@@ -4,7 +4,7 @@ use Rattle.game_theory.specs.Profiles.{IsProfile}
 use Rattle.game_theory.proofs.ProfileNumberLemmas.{length-profile}
 use Rattle.game_core.specs.TreeGame.{game_of_tree}
 use Rattle.reduced_strategies.specs.StrategicForm.{AreStrategies, list_of}
-use Rattle.behaviour_profile.proofs.BehaviourEntryLemmas.{number-within, strategy-is, list_of-long, entries_from-push}
+use Rattle.behaviour_profile.proofs.BehaviourEntryLemmas.{number-within, strategy-is, list_of-long, entries_below-push}
 use Rattle.behaviour_profile.proofs.Behaviour.from_reduced.Goals as goal
 use Rattle.behaviour_profile.proofs.Behaviour.from_reduced.Goals.{After-lists, After-deref}
 
@@ -43,4 +43,4 @@ push_player-requires c =
 
 pub loop-player-preserved : goal.loop-player-preserved
 loop-player-preserved c =
-    entries_from-push (game_of_tree c.args.tree.now) c.args.reduced.now.choices c.args.profile.now c.deref.result.now _ c.loop-player.entries.items c.loop-player.player (is_strategy (goal.at.loop-player-preserved c).After-deref) c.loop-player.invariant (c.in_ok-push_player.ensures {u = tt})
+    entries_below-push (game_of_tree c.args.tree.now) c.args.reduced.now.choices c.args.profile.now c.deref.result.now _ c.loop-player.entries.items c.loop-player.player (is_strategy (goal.at.loop-player-preserved c).After-deref) c.loop-player.invariant (c.in_ok-push_player.ensures {u = tt})

@@ -1,5 +1,5 @@
 use Rattle.std.proofs.Common.{◌≡◌}
-use Rattle.game_theory.specs.TreeEntries.{entries_from}
+use Rattle.game_theory.specs.TreeEntries.{entries_below}
 use Rattle.game_theory.specs.Behaviour.{pure}
 use Rattle.game_core.specs.TreeGame.{game_of_tree}
 use Rattle.reduced_strategies.specs.StrategicForm.{completed}
@@ -8,4 +8,4 @@ use Rattle.behaviour_profile.proofs.Behaviour.from_reduced.Given as goal
 abbrev pub invariant-loop-player : goal.invariant-loop-player
 invariant-loop-player l =
     let t = game_of_tree l.tree in
-    l.entries.items ≡ entries_from t (pure (completed t l.reduced.choices l.profile)) 0 l.player
+    l.entries.items ≡ entries_below t (pure (completed t l.reduced.choices l.profile)) l.player

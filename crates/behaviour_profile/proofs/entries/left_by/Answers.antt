@@ -13,28 +13,28 @@ use Rattle.behaviour_profile.proofs.entries.left_by.Goals.{After-actions}
 within : (c : After-actions) → c.loop-set.number < length (own_counts (game_of_tree c.args.tree.now) c.args.player)
 within c =
     number-within (own_counts (game_of_tree c.args.tree.now) c.args.player) c.loop-set.number _
-    (count-at c.args.tree.now c.args.player c.loop-set.number c.own_sets.result c.own_sets.ensures (c.own_sets_are_those_of_the_tree.ensures c.args.tree.now c.args.player) c.in-Some.set c.in-Some.is)
+    (count-at c.args.tree.now c.args.player c.loop-set.number c.own_sets.result c.own_sets.ensures c.in-Some.set c.in-Some.is)
 
 counted : (c : After-actions) → length c.actions.result.now ≡ (game_of_tree c.args.tree.now).actions c.in-Some.set
 counted c =
     ap length c.actions.ensures
-    ∙ count-is c.args.tree.now c.args.player c.loop-set.number c.own_sets.result c.own_sets.ensures (c.own_sets_are_those_of_the_tree.ensures c.args.tree.now c.args.player) c.in-Some.set c.in-Some.is c.sets.result.now c.index-sets-set.result c.sets.ensures.sets c.index-sets-set.is
+    ∙ count-is c.args.tree.now c.args.player c.loop-set.number c.own_sets.result c.own_sets.ensures c.in-Some.set c.in-Some.is c.sets.result.now c.index-sets-set.result c.sets.ensures.sets c.index-sets-set.is
 
 next : (c : After-actions) → sum (take (c.loop-set.number + 1) (own_counts (game_of_tree c.args.tree.now) c.args.player)) ≡ sum (take c.loop-set.number (own_counts (game_of_tree c.args.tree.now) c.args.player)) + length c.actions.result.now
 next c =
     sum-next (own_counts (game_of_tree c.args.tree.now) c.args.player) c.loop-set.number _
-    (count-at c.args.tree.now c.args.player c.loop-set.number c.own_sets.result c.own_sets.ensures (c.own_sets_are_those_of_the_tree.ensures c.args.tree.now c.args.player) c.in-Some.set c.in-Some.is)
+    (count-at c.args.tree.now c.args.player c.loop-set.number c.own_sets.result c.own_sets.ensures c.in-Some.set c.in-Some.is)
     ∙ ap (λ n. sum (take c.loop-set.number (own_counts (game_of_tree c.args.tree.now) c.args.player)) + n) (sym (counted c))
 
 end : (c : After-actions) → sum (take c.loop-set.number (own_counts (game_of_tree c.args.tree.now) c.args.player)) + length c.actions.result.now ≤ sum (own_counts (game_of_tree c.args.tree.now) c.args.player)
 end c =
     subst (λ n. sum (take c.loop-set.number (own_counts (game_of_tree c.args.tree.now) c.args.player)) + n ≤ sum (own_counts (game_of_tree c.args.tree.now) c.args.player)) (sym (counted c))
     (end-within (own_counts (game_of_tree c.args.tree.now) c.args.player) c.loop-set.number _
-    (count-at c.args.tree.now c.args.player c.loop-set.number c.own_sets.result c.own_sets.ensures (c.own_sets_are_those_of_the_tree.ensures c.args.tree.now c.args.player) c.in-Some.set c.in-Some.is))
+    (count-at c.args.tree.now c.args.player c.loop-set.number c.own_sets.result c.own_sets.ensures c.in-Some.set c.in-Some.is))
 
 pub bounds-sets-set : goal.bounds-sets-set
 bounds-sets-set c =
-    let below = set-below c.args.tree.now c.args.player c.loop-set.number c.own_sets.result c.own_sets.ensures (c.own_sets_are_those_of_the_tree.ensures c.args.tree.now c.args.player) c.in-Some.set c.in-Some.is in
+    let below = set-below c.args.tree.now c.args.player c.loop-set.number c.own_sets.result c.own_sets.ensures c.in-Some.set c.in-Some.is in
     omega (arith, below, ap (λ (sets : List InformationSet). length sets) c.sets.ensures.sets)
 
 pub returns-in_err-left : goal.returns-in_err-left
@@ -62,5 +62,5 @@ loop-set-preserved c =
 
 pub returns : goal.returns
 returns c =
-    let all = none-left c.args.tree.now c.args.player c.loop-set.number c.own_sets.result c.own_sets.ensures (c.own_sets_are_those_of_the_tree.ensures c.args.tree.now c.args.player) c.in_default.is in
+    let all = none-left c.args.tree.now c.args.player c.loop-set.number c.own_sets.result c.own_sets.ensures c.in_default.is in
     omega (arith, c.loop-set.invariant, ap sum all)

@@ -14,11 +14,11 @@ use Rattle.behaviour_profile.proofs.entries.test_player.Goals.{After-actions, In
 counted : (c : After-actions) → length c.actions.result.now ≡ (game_of_tree c.args.tree.now).actions c.in-Some.set
 counted c =
     ap length c.actions.ensures
-    ∙ count-is c.args.tree.now c.args.player c.loop-set.number c.own_sets.result c.own_sets.ensures (c.own_sets_are_those_of_the_tree.ensures c.args.tree.now c.args.player) c.in-Some.set c.in-Some.is c.sets.result.now c.index-sets-set.result c.sets.ensures.sets c.index-sets-set.is
+    ∙ count-is c.args.tree.now c.args.player c.loop-set.number c.own_sets.result c.own_sets.ensures c.in-Some.set c.in-Some.is c.sets.result.now c.index-sets-set.result c.sets.ensures.sets c.index-sets-set.is
 
 at : (c : After-actions) → slice_get (own_counts (game_of_tree c.args.tree.now) c.args.player) c.loop-set.number ≡ Some (length c.actions.result.now)
 at c =
-    count-at c.args.tree.now c.args.player c.loop-set.number c.own_sets.result c.own_sets.ensures (c.own_sets_are_those_of_the_tree.ensures c.args.tree.now c.args.player) c.in-Some.set c.in-Some.is
+    count-at c.args.tree.now c.args.player c.loop-set.number c.own_sets.result c.own_sets.ensures c.in-Some.set c.in-Some.is
     ∙ ap Some (sym (counted c))
 
 within : (c : After-actions) → c.loop-set.number < length (own_counts (game_of_tree c.args.tree.now) c.args.player)
@@ -28,16 +28,16 @@ end : (c : After-actions) → sum (take c.loop-set.number (own_counts (game_of_t
 end c = end-within (own_counts (game_of_tree c.args.tree.now) c.args.player) c.loop-set.number _ (at c)
 
 all : (c : In_default) → take c.loop-set.number (own_counts (game_of_tree c.args.tree.now) c.args.player) ≡ own_counts (game_of_tree c.args.tree.now) c.args.player
-all c = none-left c.args.tree.now c.args.player c.loop-set.number c.own_sets.result c.own_sets.ensures (c.own_sets_are_those_of_the_tree.ensures c.args.tree.now c.args.player) c.in_default.is
+all c = none-left c.args.tree.now c.args.player c.loop-set.number c.own_sets.result c.own_sets.ensures c.in_default.is
 
 pub bounds-sets-set : goal.bounds-sets-set
 bounds-sets-set c =
-    let below = set-below c.args.tree.now c.args.player c.loop-set.number c.own_sets.result c.own_sets.ensures (c.own_sets_are_those_of_the_tree.ensures c.args.tree.now c.args.player) c.in-Some.set c.in-Some.is in
+    let below = set-below c.args.tree.now c.args.player c.loop-set.number c.own_sets.result c.own_sets.ensures c.in-Some.set c.in-Some.is in
     omega (arith, below, ap (λ (sets : List InformationSet). length sets) c.sets.ensures.sets)
 
 pub overflow_cast-count : goal.overflow_cast-count
 overflow_cast-count c =
-    let few = count-few c.args.tree.now c.args.player c.loop-set.number c.own_sets.result c.own_sets.ensures (c.own_sets_are_those_of_the_tree.ensures c.args.tree.now c.args.player) c.in-Some.set c.in-Some.is (length c.actions.result.now) c.sets.ensures.valid (counted (goal.at.overflow_cast-count c).After-actions) in
+    let few = count-few c.args.tree.now c.args.player c.loop-set.number c.own_sets.result c.own_sets.ensures c.in-Some.set c.in-Some.is (length c.actions.result.now) c.sets.ensures.valid (counted (goal.at.overflow_cast-count c).After-actions) in
     omega (arith, few)
 
 pub test_group-requires-clause-within : goal.test_group-requires-clause-within

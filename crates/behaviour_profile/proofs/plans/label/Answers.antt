@@ -11,14 +11,14 @@ use Rattle.behaviour_profile.proofs.plans.label.Goals as goal
 pub bounds-sets-set : goal.bounds-sets-set
 bounds-sets-set c =
     let t = game_of_tree c.args.tree.now in
-    let at : slice_get (own_sets t c.args.player) c.args.place ≡ Some c.in-Some.set = sym (c.own_sets.ensures ∙ ap (λ v. slice_get v c.args.place) (c.own_sets_are_those_of_the_tree.ensures c.args.tree.now c.args.player)) ∙ c.in-Some.is in
+    let at : slice_get (own_sets t c.args.player) c.args.place ≡ Some c.in-Some.set = sym c.own_sets.ensures ∙ c.in-Some.is in
     omega (arith, own_set-below t c.args.player c.args.place c.in-Some.set at, ap (λ (v : List InformationSet). length v) c.sets.ensures.sets)
 
 pub returns-in-Some : goal.returns-in-Some
 returns-in-Some c =
     let t = game_of_tree c.args.tree.now in
     let s = c.in-Some.set in
-    let at : slice_get (own_sets t c.args.player) c.args.place ≡ Some s = sym (c.own_sets.ensures ∙ ap (λ v. slice_get v c.args.place) (c.own_sets_are_those_of_the_tree.ensures c.args.tree.now c.args.player)) ∙ c.in-Some.is in
+    let at : slice_get (own_sets t c.args.player) c.args.place ≡ Some s = sym c.own_sets.ensures ∙ c.in-Some.is in
     let below : s < length c.sets.result.now = omega (arith, own_set-below t c.args.player c.args.place s at, ap (λ (v : List InformationSet). length v) c.sets.ensures.sets) in
     c.label.ensures ∙ ap (λ (set : InformationSet). set.label) c.index-sets-set.is
     ∙ sym (get_or-map (λ (set : InformationSet). set.label) c.sets.result.now s c.index-sets-set.result 0 below)
@@ -28,4 +28,4 @@ returns-in-Some c =
 pub returns-in-None : goal.returns-in-None
 returns-in-None c =
     let t = game_of_tree c.args.tree.now in
-    absurd (place-found t c.args.player c.args.place c.requires (sym (c.own_sets.ensures ∙ ap (λ v. slice_get v c.args.place) (c.own_sets_are_those_of_the_tree.ensures c.args.tree.now c.args.player)) ∙ c.in-None.is))
+    absurd (place-found t c.args.player c.args.place c.requires (sym c.own_sets.ensures ∙ c.in-None.is))

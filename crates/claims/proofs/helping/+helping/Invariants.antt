@@ -5,10 +5,10 @@ use Rattle.claims.proofs.helping.+helping.Given as goal
 
 abbrev pub invariant-helped-loop : goal.invariant-helped-loop
 invariant-helped-loop g l = record {
-  same : l.pass ≡ pass_state l.job.claims.now l.initial.pass.parts l.pass.claimed;
+  same : l.pass ≡ pass_state l.job.work.claims.now l.initial.pass.parts l.pass.claimed;
   claimed : length l.pass.claimed ≡ length l.initial.pass.claimed + 16 * l.counter;
   whole : KnowsWhole l.pass.parts l.pass.claimed;
-  are_of : AreOf g.F.Fn l.job.f.now l.job.count l.pass.claimed l.pieces.items;
+  are_of : AreOf g.F.Fn l.job.work.f.now l.job.work.count l.pass.claimed l.pieces.items;
 }
 
 abbrev pub decreases-helped : goal.decreases-helped

@@ -5,8 +5,8 @@ use Rattle.claims.proofs.helping.worked.Given as goal
 
 abbrev pub invariant-loop : goal.invariant-loop
 invariant-loop g l = record {
-  same : l.pass ≡ pass_state l.job.claims.now l.initial.pass.parts l.pass.claimed;
+  same : l.pass ≡ pass_state l.work.claims.now l.initial.pass.parts l.pass.claimed;
   claimed : length l.pass.claimed ≡ length l.initial.pass.claimed + l.counter;
   whole : KnowsWhole l.pass.parts l.pass.claimed;
-  are_of : AreOf g.F.Fn l.job.f.now l.job.count l.pass.claimed l.pieces.items;
+  are_of : AreOf g.F.Fn l.work.f.now l.work.count l.pass.claimed l.pieces.items;
 }

@@ -9,4 +9,4 @@ bounds-profile-player c = omega (arith, length-profile c.args.counts.now c.args.
 
 pub loop-player-preserved : goal.loop-player-preserved
 loop-player-preserved c =
-    entries-push _ c.loop-player.entries.items c.args.counts.now (pure c.args.profile.now) c.loop-player.player (omega arith) c.loop-player.invariant (c.in_ok-push_entries.ensures {u = tt})
+    entries-push _ c.loop-player.entries.items c.args.counts.now (pure c.args.profile.now) c.loop-player.player (omega arith) c.loop-player.invariant (c.in_ok-push_sure.ensures {u = tt})

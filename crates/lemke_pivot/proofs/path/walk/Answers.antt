@@ -1,12 +1,12 @@
-use Rattle.std.proofs.Common.{◌≢◌, ◌+◌, ◌<◌, add-one, suc, refl, sym, ap, ◌∙◌, subst, length, true≢false, arith}
+use Rattle.std.proofs.Common.{◌≢◌, ◌+◌, ◌<◌, add-one, suc, refl, sym, ap, ◌∙◌, subst, length, Some, true≢false, arith}
 use Rattle.rational.specs.Rational.{zero_ℚ}
 use Rattle.rational.proofs.InverseLemmas.{ne_zero_of_pos}
 use Rattle.linear_systems.specs.Rows.{basic_solution}
 use Rattle.lex_tableau.specs.Pivots.{pivot_number}
 use Rattle.lex_tableau.proofs.PivotNumberLemmas.{pivot_number_next}
-use Rattle.lex_tableau.specs.Rows.{Numbers, tableau, IsTableau}
+use Rattle.lex_tableau.specs.Rows.{WholeTableau, tableau, IsNonbasicColumn}
 use Rattle.lemke_pivot.specs.ProblemPaths.{complement, z0_of}
-use Rattle.lemke_pivot.proofs.KeptWalkLemmas.{z0_entry, columns_are, walk_value, walk_bound, walk_solved, walk_nonbasic, walk_variable, walk_best, walk_never, walk_next, walk_stops}
+use Rattle.lemke_pivot.proofs.KeptWalkLemmas.{z0_entry, walk_value, walk_bound, walk_solved, walk_stands, walk_variable, walk_best, walk_never, walk_next, walk_stops}
 use Rattle.lemke_pivot.proofs.path.walk.Goals as goal
 
 pub pivot-requires-clause-entry : goal.pivot-requires-clause-entry
@@ -16,54 +16,39 @@ pub returns-then-is_zero-clause-solved : goal.returns-then-is_zero-clause-solved
 returns-then-is_zero-clause-solved g c =
     let l = c.loop-size in let o = l.invariant.path in
     let v = walk_value c.args.size c.args.first c.args.work.now c.requires.start l.work l.entering c.args.pivots.now l.pivots l.step o c.now.result.now (c.args.size + c.args.size + 1) c.value.result c.now.ensures.value (omega arith) c.value.ensures.value in
-    walk_solved c.args.size c.args.first c.args.work.now c.requires.start l.work l.entering c.args.pivots.now l.pivots l.step o (sym v ∙ c.is_zero.ensures.0 c.if-is_zero.true) (subst IsTableau c.now.ensures.value c.value.ensures.valid)
-
-pub column_of-col-requires-clause-columns : goal.column_of-col-requires-clause-columns
-column_of-col-requires-clause-columns g c =
-    let l = c.loop-size in
-    columns_are c.args.size c.args.first c.args.work.now c.requires.start l.work l.entering c.args.pivots.now l.pivots l.step l.invariant.path ∙ ap (λ (m : Numbers). length m.nonbasics) (sym c.now-in-loop-size.ensures.value)
-
-pub column_of-col-requires-clause-nonbasic : goal.column_of-col-requires-clause-nonbasic
-column_of-col-requires-clause-nonbasic g c =
-    let l = c.loop-size in let o = l.invariant.path in
-    let v = walk_value c.args.size c.args.first c.args.work.now c.requires.start l.work l.entering c.args.pivots.now l.pivots l.step o c.now.result.now (c.args.size + c.args.size + 1) c.value.result c.now.ensures.value (omega arith) c.value.ensures.value in
-    let w = walk_nonbasic c.args.size c.args.first c.args.work.now c.requires.start l.work l.entering c.args.pivots.now l.pivots l.step o (λ e. true≢false (sym (c.is_zero.ensures.1 (v ∙ e)) ∙ c.if-is_zero.false)) in
-    (w.0, w.1, ap (λ (m : Numbers). (tableau m).nonbasic w.0) c.now-in-loop-size.ensures.value ∙ w.2)
-
-pub ratio_row-requires : goal.ratio_row-requires
-ratio_row-requires g c =
-    let l = c.loop-size in
-    let e = columns_are c.args.size c.args.first c.args.work.now c.requires.start l.work l.entering c.args.pivots.now l.pivots l.step l.invariant.path ∙ ap (λ (m : Numbers). length m.nonbasics) (sym c.now-in-loop-size-2.ensures.value) in
-    subst (λ k. c.column_of-col.result < k) e c.column_of-col.ensures.within
+    walk_solved c.args.size c.args.first c.args.work.now c.requires.start l.work l.entering c.args.pivots.now l.pivots l.step o (sym v ∙ c.is_zero.ensures.0 c.if-is_zero.true)
 
 pub unreachable-requires : goal.unreachable-requires
 unreachable-requires g c =
     let l = c.loop-size in let o = l.invariant.path in
     let v = walk_value c.args.size c.args.first c.args.work.now c.requires.start l.work l.entering c.args.pivots.now l.pivots l.step o c.now.result.now (c.args.size + c.args.size + 1) c.value.result c.now.ensures.value (omega arith) c.value.ensures.value in
-    walk_never c.args.size c.args.first c.args.work.now c.requires.start l.work l.entering c.args.pivots.now l.pivots l.step o (λ e. true≢false (sym (c.is_zero.ensures.1 (v ∙ e)) ∙ c.if-is_zero.false))
-    c.now-in-loop-size-2.result.now c.column_of-col.result c.ratio_row.result c.now-in-loop-size-2.ensures.value c.in_default-ratio_row.is c.column_of-col.ensures.within (sym (ap (λ (m : Numbers). (tableau m).nonbasic c.column_of-col.result) c.now-in-loop-size.ensures.value) ∙ c.column_of-col.ensures.is) c.ratio_row.ensures.best
+    walk_stands c.args.size c.args.first c.args.work.now c.requires.start l.work l.entering c.args.pivots.now l.pivots l.step o (λ e. true≢false (sym (c.is_zero.ensures.1 (v ∙ e)) ∙ c.if-is_zero.false)) c.now-in-loop-size.result.now c.now-in-loop-size.ensures.value c.in_default-column_of.ensures.column
 
-pub pivot-requires-in-loop-size-clause-col_in : goal.pivot-requires-in-loop-size-clause-col_in
-pivot-requires-in-loop-size-clause-col_in g c =
-    let l = c.loop-size in
-    subst (λ k. c.column_of-col.result < k) (columns_are c.args.size c.args.first c.args.work.now c.requires.start l.work l.entering c.args.pivots.now l.pivots l.step l.invariant.path) c.column_of-col.ensures.within
+pub unreachable-requires-in_default-ratio_row : goal.unreachable-requires-in_default-ratio_row
+unreachable-requires-in_default-ratio_row g c =
+    let l = c.loop-size in let o = l.invariant.path in
+    let v = walk_value c.args.size c.args.first c.args.work.now c.requires.start l.work l.entering c.args.pivots.now l.pivots l.step o c.now.result.now (c.args.size + c.args.size + 1) c.value.result c.now.ensures.value (omega arith) c.value.ensures.value in
+    let ne : basic_solution (tableau l.work) (z0_of c.args.size) ≢ zero_ℚ = λ e. true≢false (sym (c.is_zero.ensures.1 (v ∙ e)) ∙ c.if-is_zero.false) in
+    let col : IsNonbasicColumn l.work l.entering (Some c.in-Some.col) = subst (λ m. IsNonbasicColumn m l.entering (Some c.in-Some.col)) c.now-in-loop-size.ensures.value c.in-Some.ensures.column in
+    walk_never c.args.size c.args.first c.args.work.now c.requires.start l.work l.entering c.args.pivots.now l.pivots l.step o ne c.now-in-loop-size-2.result.now c.in-Some.col c.now-in-loop-size-2.ensures.value col c.in_default-ratio_row.ensures.best
 
 pub pivot-requires-in-loop-size-clause-entry : goal.pivot-requires-in-loop-size-clause-entry
 pivot-requires-in-loop-size-clause-entry g c =
     let l = c.loop-size in let o = l.invariant.path in
     let v = walk_value c.args.size c.args.first c.args.work.now c.requires.start l.work l.entering c.args.pivots.now l.pivots l.step o c.now.result.now (c.args.size + c.args.size + 1) c.value.result c.now.ensures.value (omega arith) c.value.ensures.value in
     let ne : basic_solution (tableau l.work) (z0_of c.args.size) ≢ zero_ℚ = λ e. true≢false (sym (c.is_zero.ensures.1 (v ∙ e)) ∙ c.if-is_zero.false) in
-    let L = walk_best c.args.size c.args.first c.args.work.now c.requires.start l.work l.entering c.args.pivots.now l.pivots l.step o ne c.now-in-loop-size-2.result.now c.column_of-col.result c.in-Some.row c.ratio_row.result c.now-in-loop-size-2.ensures.value c.in-Some.is c.ratio_row.ensures.best in
-    ne_zero_of_pos ((tableau l.work).cell c.in-Some.row c.column_of-col.result) L.positive
+    let L = walk_best c.args.size c.args.first c.args.work.now c.requires.start l.work l.entering c.args.pivots.now l.pivots l.step o ne c.now-in-loop-size-2.result.now c.in-Some.col c.in-Some-ratio_row.row c.now-in-loop-size-2.ensures.value c.in-Some-ratio_row.ensures.best in
+    ne_zero_of_pos ((tableau l.work).cell c.in-Some-ratio_row.row c.in-Some.col) L.positive
 
 pub returns-in-Err-pivot-clause-unfit : goal.returns-in-Err-pivot-clause-unfit
 returns-in-Err-pivot-clause-unfit g c =
     let l = c.loop-size in let o = l.invariant.path in
     let v = walk_value c.args.size c.args.first c.args.work.now c.requires.start l.work l.entering c.args.pivots.now l.pivots l.step o c.now.result.now (c.args.size + c.args.size + 1) c.value.result c.now.ensures.value (omega arith) c.value.ensures.value in
     let ne : basic_solution (tableau l.work) (z0_of c.args.size) ≢ zero_ℚ = λ e. true≢false (sym (c.is_zero.ensures.1 (v ∙ e)) ∙ c.if-is_zero.false) in
-    walk_stops c.args.size c.args.first c.args.work.now c.requires.start l.work l.entering c.args.pivots.now l.pivots l.step o ne c.column_of-col.result c.in-Some.row c.column_of-col.ensures.within (sym (ap (λ (m : Numbers). (tableau m).nonbasic c.column_of-col.result) c.now-in-loop-size.ensures.value) ∙ c.column_of-col.ensures.is)
-    (walk_best c.args.size c.args.first c.args.work.now c.requires.start l.work l.entering c.args.pivots.now l.pivots l.step o ne c.now-in-loop-size-2.result.now c.column_of-col.result c.in-Some.row c.ratio_row.result c.now-in-loop-size-2.ensures.value c.in-Some.is c.ratio_row.ensures.best)
-    (subst IsTableau c.now.ensures.value c.value.ensures.valid) c.saturating_add-step.result c.in-Err-pivot.unfit (c.saturating_add-step.ensures ∙ ap pivot_number (add-one l.step) ∙ ap (λ k. pivot_number (suc k)) o.number ∙ pivot_number_next (suc (length o.earlier))) c.in-Err-pivot.ensures.unfit
+    let col : IsNonbasicColumn l.work l.entering (Some c.in-Some.col) = subst (λ m. IsNonbasicColumn m l.entering (Some c.in-Some.col)) c.now-in-loop-size.ensures.value c.in-Some.ensures.column in
+    walk_stops c.args.size c.args.first c.args.work.now c.requires.start l.work l.entering c.args.pivots.now l.pivots l.step o ne c.in-Some.col c.in-Some-ratio_row.row col
+    (walk_best c.args.size c.args.first c.args.work.now c.requires.start l.work l.entering c.args.pivots.now l.pivots l.step o ne c.now-in-loop-size-2.result.now c.in-Some.col c.in-Some-ratio_row.row c.now-in-loop-size-2.ensures.value c.in-Some-ratio_row.ensures.best)
+    c.saturating_add-step.result c.in-Err-pivot.unfit (c.saturating_add-step.ensures ∙ ap pivot_number (add-one l.step) ∙ ap (λ k. pivot_number (suc k)) o.number ∙ pivot_number_next (suc (length o.earlier))) c.in-Err-pivot.ensures.unfit
 
 pub returns-then-is_zero-clause-path : goal.returns-then-is_zero-clause-path
 returns-then-is_zero-clause-path g c = let o = c.loop-size.invariant.path in (suc (length o.earlier), sym o.counts, (o.earlier, c.loop-size.entering, o.path, refl))
@@ -95,22 +80,23 @@ complement_of-entering-requires-clause-positive g c =
     let l = c.loop-size in let o = l.invariant.path in
     let v = walk_value c.args.size c.args.first c.args.work.now c.requires.start l.work l.entering c.args.pivots.now l.pivots l.step o c.now.result.now (c.args.size + c.args.size + 1) c.value.result c.now.ensures.value (omega arith) c.value.ensures.value in
     let ne : basic_solution (tableau l.work) (z0_of c.args.size) ≢ zero_ℚ = λ e. true≢false (sym (c.is_zero.ensures.1 (v ∙ e)) ∙ c.if-is_zero.false) in
-    let L = walk_best c.args.size c.args.first c.args.work.now c.requires.start l.work l.entering c.args.pivots.now l.pivots l.step o ne c.now-in-loop-size-2.result.now c.column_of-col.result c.in-Some.row c.ratio_row.result c.now-in-loop-size-2.ensures.value c.in-Some.is c.ratio_row.ensures.best in
-    subst (λ k. 0 < k) (sym (c.basic-leaving.ensures ∙ ap (λ (m : Numbers). (tableau m).basic c.in-Some.row) c.now-in-loop-size-3.ensures.value)) (walk_variable c.args.size c.args.first c.args.work.now c.requires.start l.work l.entering c.args.pivots.now l.pivots l.step o ne c.in-Some.row L.within).0
+    let L = walk_best c.args.size c.args.first c.args.work.now c.requires.start l.work l.entering c.args.pivots.now l.pivots l.step o ne c.now-in-loop-size-2.result.now c.in-Some.col c.in-Some-ratio_row.row c.now-in-loop-size-2.ensures.value c.in-Some-ratio_row.ensures.best in
+    subst (λ k. 0 < k) (sym (c.basic-leaving.ensures ∙ ap (λ (m : WholeTableau). (tableau m).basic c.in-Some-ratio_row.row) c.now-in-loop-size-3.ensures.value)) (walk_variable c.args.size c.args.first c.args.work.now c.requires.start l.work l.entering c.args.pivots.now l.pivots l.step o ne c.in-Some-ratio_row.row L.within).0
 
 pub loop-size-preserved : goal.loop-size-preserved
 loop-size-preserved g c =
     let l = c.loop-size in let o = l.invariant.path in
     let v = walk_value c.args.size c.args.first c.args.work.now c.requires.start l.work l.entering c.args.pivots.now l.pivots l.step o c.now.result.now (c.args.size + c.args.size + 1) c.value.result c.now.ensures.value (omega arith) c.value.ensures.value in
     let ne : basic_solution (tableau l.work) (z0_of c.args.size) ≢ zero_ℚ = λ e. true≢false (sym (c.is_zero.ensures.1 (v ∙ e)) ∙ c.if-is_zero.false) in
-    let L = walk_best c.args.size c.args.first c.args.work.now c.requires.start l.work l.entering c.args.pivots.now l.pivots l.step o ne c.now-in-loop-size-2.result.now c.column_of-col.result c.in-Some.row c.ratio_row.result c.now-in-loop-size-2.ensures.value c.in-Some.is c.ratio_row.ensures.best in
-    let left = c.basic-leaving.ensures ∙ ap (λ (m : Numbers). (tableau m).basic c.in-Some.row) c.now-in-loop-size-3.ensures.value in
+    let L = walk_best c.args.size c.args.first c.args.work.now c.requires.start l.work l.entering c.args.pivots.now l.pivots l.step o ne c.now-in-loop-size-2.result.now c.in-Some.col c.in-Some-ratio_row.row c.now-in-loop-size-2.ensures.value c.in-Some-ratio_row.ensures.best in
+    let col : IsNonbasicColumn l.work l.entering (Some c.in-Some.col) = subst (λ m. IsNonbasicColumn m l.entering (Some c.in-Some.col)) c.now-in-loop-size.ensures.value c.in-Some.ensures.column in
+    let left = c.basic-leaving.ensures ∙ ap (λ (m : WholeTableau). (tableau m).basic c.in-Some-ratio_row.row) c.now-in-loop-size-3.ensures.value in
     record {
       size = l.invariant.size;
       few = l.invariant.few;
       z0 = l.invariant.z0;
-      path = walk_next c.args.size c.args.first c.args.work.now c.requires.start l.work l.entering c.args.pivots.now l.pivots l.step o ne c.column_of-col.result c.in-Some.row c.column_of-col.ensures.within (sym (ap (λ (m : Numbers). (tableau m).nonbasic c.column_of-col.result) c.now-in-loop-size.ensures.value) ∙ c.column_of-col.ensures.is) L (subst IsTableau c.now.ensures.value c.value.ensures.valid)
-          c.pivot-in-loop-size.new.self c.complement_of-entering.result c.pivot-in-loop-size.new.pivots c.saturating_add-step.result c.in_default-pivot.ensures.pivot c.in_default-pivot.ensures.fits (c.complement_of-entering.ensures ∙ ap (complement c.args.size) left) c.pivot-in-loop-size.ensures.counted (c.saturating_add-step.ensures ∙ ap pivot_number (add-one l.step) ∙ ap (λ k. pivot_number (suc k)) o.number ∙ pivot_number_next (suc (length o.earlier)));
+      path = walk_next c.args.size c.args.first c.args.work.now c.requires.start l.work l.entering c.args.pivots.now l.pivots l.step o ne c.in-Some.col c.in-Some-ratio_row.row col L
+          c.pivot-in-loop-size.new.self c.complement_of-entering.result c.pivot-in-loop-size.new.pivots c.saturating_add-step.result (record { is_tableau = c.pivot-in-loop-size.ensures.valid; pivot = c.in_default-pivot.ensures.pivot; fits = c.in_default-pivot.ensures.fits }) (c.complement_of-entering.ensures ∙ ap (complement c.args.size) left) c.pivot-in-loop-size.ensures.counted (c.saturating_add-step.ensures ∙ ap pivot_number (add-one l.step) ∙ ap (λ k. pivot_number (suc k)) o.number ∙ pivot_number_next (suc (length o.earlier)));
     }
 
 pub loop-size-smaller : goal.loop-size-smaller

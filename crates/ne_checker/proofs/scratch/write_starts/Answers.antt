@@ -1,5 +1,6 @@
 use Rattle.std.proofs.Common.{◌≡◌, ◌+◌, ◌<◌, ◌∙◌, ap, sym, subst, length, arith}
 use Rattle.std.proofs.lemmas.List.{length-set}
+use Rattle.game_theory.proofs.OwnSetLemmas.{is_own-told}
 use Rattle.strategy_lists.proofs.ActionCountLemmas.{actions-below}
 use Rattle.game_core.specs.TreeGame.{game_of_tree}
 use Rattle.ne_checker.specs.TreeStarts.{AreStartsTo}
@@ -23,9 +24,9 @@ loop-set-preserved c =
       | then-is_own w ↦ rw (w.starts-is, w.next-is) (
         length-set c.loop-set.starts c.loop-set.set c.loop-set.next ∙ before.0,
         omega (arith, actions-below c.args.tree.now c.loop-set.set valid below, w.action_count-next.ensures, valid.few_nodes, before.1),
-        λ start. subst (λ x. AreStartsTo t c.args.player (c.loop-set.set + 1) _ (c.loop-set.next + x)) (sym w.action_count-next.ensures) (starts-own t c.args.player c.loop-set.set c.loop-set.starts c.loop-set.next (before.2 start) below (c.is_own.ensures.0 w.if-is_own.true)),
+        λ start. subst (λ x. AreStartsTo t c.args.player (c.loop-set.set + 1) _ (c.loop-set.next + x)) (sym w.action_count-next.ensures) (starts-own t c.args.player c.loop-set.set c.loop-set.starts c.loop-set.next (before.2 start) below ((is_own-told t c.args.player c.loop-set.set _ c.is_own.ensures).0 w.if-is_own.true)),
       )
-      | else-is_own w ↦ rw (w.starts-is, w.next-is) (before.0, omega (arith, before.1), λ start. starts-other t c.args.player c.loop-set.set c.loop-set.starts c.loop-set.next (before.2 start) (λ o. cc (c.is_own.ensures.1 o, w.if-is_own.false)))
+      | else-is_own w ↦ rw (w.starts-is, w.next-is) (before.0, omega (arith, before.1), λ start. starts-other t c.args.player c.loop-set.set c.loop-set.starts c.loop-set.next (before.2 start) (λ o. cc ((is_own-told t c.args.player c.loop-set.set _ c.is_own.ensures).1 o, w.if-is_own.false)))
     ]
 
 pub returns-clause-starts : goal.returns-clause-starts

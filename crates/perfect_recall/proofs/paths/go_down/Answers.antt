@@ -1,6 +1,6 @@
 use Rattle.std.proofs.Common.{subst}
 use Rattle.game_core.specs.TreeGame.{game_of_tree}
-use Rattle.perfect_recall.specs.LastEdges.{NobodyChooses}
+use Rattle.game_theory.specs.OwnSets.{NobodyChooses}
 use Rattle.game_theory.specs.OwnSets.{Chooses}
 use Rattle.perfect_recall.proofs.LastEdgeLemmas.{down-nobody, down-player}
 use Rattle.perfect_recall.proofs.paths.go_down.Goals as goal

@@ -1,11 +1,11 @@
-use Rattle.std.proofs.Common.{◌+◌, ◌*◌, ◌<◌, ◌≤◌, inr, Err, length, get_or, sym, ap, ◌∙◌, subst, arith}
+use Rattle.std.proofs.Common.{◌+◌, ◌*◌, ◌<◌, ◌≤◌, inr, Err, length, get_or, sym, ap, subst, arith}
 use Rattle.answers.specs.Answers.{Gives}
 use Rattle.game_core.specs.TreeGame.{game_of_tree}
 use Rattle.reduced_form.specs.Counts.{counts_in}
 use Rattle.reduced_form.specs.Limits.{most_choices}
 use Rattle.reduced_form.specs.declared.stop.ReduceStop.TheVariants as stops
 use Rattle.reduced_form.proofs.FormCountLemmas.{choices-step, few_choices, few_strategies, many-choices}
-use Rattle.reduced_form.proofs.SetCountLemmas.{own_sets-short}
+use Rattle.strategy_lists.proofs.OwnNumberLemmas.{own_numbers-length}
 use Rattle.reduced_form.proofs.limits.check_choices.Goals as goal
 use Rattle.reduced_form.proofs.limits.check_choices.Goals.{After-own_set_count}
 
@@ -15,7 +15,7 @@ few c =
     let valid = c.trees_are_game_trees.ensures c.args.tree.now c.players-player-end.ensures.valid in
     let some : 0 < length c.args.tree.now.players = omega (arith, ap length c.players-player-end.ensures.players) in
     few_choices _ _ (few_strategies (game_of_tree c.args.tree.now) c.args.counts.now c.loop-player.player valid c.requires.counted some c.requires.few)
-    (omega (arith, c.own_set_count.ensures, own_sets-short c.args.tree.now c.loop-player.player, c.players-player-end.ensures.valid.few_sets, c.players-player-end.ensures.valid.few_nodes))
+    (omega (arith, c.own_set_count.ensures, own_numbers-length (game_of_tree c.args.tree.now).owner c.loop-player.player (length c.args.tree.now.sets), c.players-player-end.ensures.valid.few_sets, c.players-player-end.ensures.valid.few_nodes))
 
 pub overflow_mul-choices : goal.overflow_mul-choices
 overflow_mul-choices c = omega (arith, few c)
@@ -26,14 +26,12 @@ overflow_add-choices c = omega (arith, few c, c.loop-player.invariant.few)
 pub returns-then-choices-gt-MOST_CHOICES-clause-stop : goal.returns-then-choices-gt-MOST_CHOICES-clause-stop
 returns-then-choices-gt-MOST_CHOICES-clause-stop c =
     let t = game_of_tree c.args.tree.now in
-    let own = c.own_set_count.ensures ∙ ap length (c.own_sets_are_those_of_the_tree.ensures c.args.tree.now c.loop-player.player) in
-    let next = choices-step t c.args.counts.now c.loop-player.player c.loop-player.choices c.own_set_count.result c.requires.counted (omega (arith, ap length c.players-player-end.ensures.players)) c.loop-player.invariant.choices_are own in
+    let next = choices-step t c.args.counts.now c.loop-player.player c.loop-player.choices c.own_set_count.result c.requires.counted (omega (arith, ap length c.players-player-end.ensures.players)) c.loop-player.invariant.choices_are c.own_set_count.ensures in
     let many = many-choices t c.args.counts.now (c.loop-player.player + 1) c.requires.counted c.requires.few (subst (λ x. most_choices < x) next c.if-choices-gt-MOST_CHOICES.true) in
     subst (λ stop. Gives stops.Memory (counts_in t) (Err stop)) (sym c.too_many_choices.ensures) (inr many)
 
 pub loop-player-preserved : goal.loop-player-preserved
 loop-player-preserved c =
     let t = game_of_tree c.args.tree.now in
-    let own = c.own_set_count.ensures ∙ ap length (c.own_sets_are_those_of_the_tree.ensures c.args.tree.now c.loop-player.player) in
-    let next = choices-step t c.args.counts.now c.loop-player.player c.loop-player.choices c.own_set_count.result c.requires.counted (omega (arith, ap length c.players-player-end.ensures.players)) c.loop-player.invariant.choices_are own in
+    let next = choices-step t c.args.counts.now c.loop-player.player c.loop-player.choices c.own_set_count.result c.requires.counted (omega (arith, ap length c.players-player-end.ensures.players)) c.loop-player.invariant.choices_are c.own_set_count.ensures in
     record { choices_are = next; few = omega (arith, c.if-choices-gt-MOST_CHOICES.false) }

@@ -1,7 +1,7 @@
 use Rattle.std.proofs.Common.{◌≡◌, ◌+◌, ◌∙◌, ap, length, arith}
 use Rattle.game_core.specs.TreeGame.{game_of_tree}
 use Rattle.sequence_form.specs.Sequences.{next_sequence}
-use Rattle.sequence_form.proofs.NumberingLemmas.{next-all, next-few, next-push}
+use Rattle.sequence_form.proofs.NumberingLemmas.{next-few, next-push}
 use Rattle.sequence_form.proofs.counts.sequence_count.Goals as goal
 
 pub overflow_add-count : goal.overflow_add-count
@@ -20,7 +20,7 @@ pub returns-clause-value : goal.returns-clause-value
 returns-clause-value c =
     let g = game_of_tree c.args.tree.now in
     let whole : c.loop-set.set ≡ length c.args.tree.now.sets = omega (arith, ap length c.sets-set-end.ensures.sets) in
-    c.loop-set.invariant ∙ ap (next_sequence g c.args.player) whole ∙ next-all g c.args.player
+    c.loop-set.invariant ∙ ap (next_sequence g c.args.player) whole
 
 pub returns-clause-few : goal.returns-clause-few
 returns-clause-few c =

@@ -1,6 +1,6 @@
 use Rattle.std.proofs.Common.{◌≡◌, length}
 use Rattle.game_core.specs.TreeGame.{game_of_tree}
-use Rattle.strategy_lists.specs.OwnNumbers.{own_numbers}
+use Rattle.game_theory.specs.OwnSets.{own_numbers}
 use Rattle.sequence_form.proofs.counts.set_count.Given as goal
 
 abbrev pub invariant-loop-set : goal.invariant-loop-set

@@ -1,6 +1,6 @@
 use Rattle.std.proofs.Common.{◌≡◌, map}
 use Rattle.game_core.specs.TreeGame.{game_of_tree}
-use Rattle.strategy_lists.specs.OwnNumbers.{own_numbers}
+use Rattle.game_theory.specs.OwnSets.{own_numbers}
 use Rattle.sequence_form.specs.Sequences.{own_set_row}
 use Rattle.sequence_form.proofs.sequences.side.Given as goal
 

@@ -35,7 +35,7 @@ loop-node-preserved c =
     let g = game_of_tree c.args.tree.now in
     let law = c.trees_are_game_trees.ensures c.args.tree.now c.nodes-node-end.ensures.valid in
     let below : c.loop-node.node < length c.args.tree.now.nodes = rw c.nodes-node-end.ensures.nodes at c.loop-node-test.true in
-    elim c.match-move_at.branch [
+    elim c.match-choice_at.branch [
       | in-Some+in_ok-number w ↦ (
           let made = rw w.as_slice.ensures.value at w.decision_at-decision.ensures in
           rw (w.lists-is, w.latest-is, w.in_ok-number.ensures.latest, add-one, c.in_ok-push.ensures.items, w.number-is) (AreMadeByAll-player (λ v. v.items) g c.loop-node.node w.in-Some.player w.in-Some.set c.loop-node.numbers.items c.loop-node.latest.items c.loop-node.lists.items law c.loop-node.invariant below w.in-Some.ensures w.index_mut-list.result.now w.take.new.list w.decision_at-decision.result w.in_ok-number.number w.index_mut-list.ensures.value made w.in_ok-number.ensures.list))

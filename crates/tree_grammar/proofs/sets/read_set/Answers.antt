@@ -1,15 +1,15 @@
 use Rattle.std.proofs.Common.{rules, option_map, refl}
 use Rattle.std.specs.Vec.{with_item}
-use Rattle.file_parts.specs.Reading.{kinds}
+use Rattle.game_core.specs.TokenList.{bare}
 use Rattle.tree_grammar.proofs.SetStepLemmas.{Comes, step_without, first_refused, first_used, later_refused, later_used, sets_begin, sets_go_on}
 use Rattle.tree_grammar.proofs.sets.read_set.Goals as goal
 use Rattle.tree_grammar.proofs.sets.read_set.Goals.{In_ok-place}
 
 -- what is known of the set that comes, where its key was noted
-comes : (c : In_ok-place) → Comes c.sets.inside c.args.owner (kinds c.args.tokens.now) (kinds c.optional_text.result.1.now) c.in-Some.label (option_map (λ t. t.now) c.optional_text.result.0) c.in_ok-place.place c.in_ok-place.is_new
+comes : (c : In_ok-place) → Comes c.sets.inside c.args.owner (bare c.args.tokens.now) (bare c.optional_text.result.1.now) c.in-Some.label (option_map (λ t. t.now) c.optional_text.result.0) c.in_ok-place.place c.in_ok-place.is_new
 comes c = record {
   are = c.sets.invariant;
-  following = kinds c.in-Some.following.now;
+  following = bare c.in-Some.following.now;
   is_label = c.in-Some.ensures;
   is_name = c.optional_text.ensures;
   is_place = c.in_ok-place.ensures.place;
@@ -18,7 +18,7 @@ comes c = record {
 }
 
 pub returns-in_default : goal.returns-in_default
-returns-in_default c = step_without c.args.node c.args.sets c.args.owner (kinds c.args.tokens.now) c.unexpected.result c.in_default.ensures c.unexpected.ensures
+returns-in_default c = step_without c.args.node c.args.sets c.args.owner (bare c.args.tokens.now) c.unexpected.result c.in_default.ensures c.unexpected.ensures
 
 pub returns-in_err-set : goal.returns-in_err-set
 returns-in_err-set c =
@@ -39,7 +39,7 @@ invariant_of-result c =
 pub returns-in_ok-push : goal.returns-in_ok-push
 returns-in_ok-push c =
     let known = comes (goal.at.returns-in_ok-push c).In_ok-place in
-    rw (← c.sets.view_is) (first_used known c.args.node (record { keys = c.placed.new.known; list = c.push.new.self }) c.in_ok-set.set (kinds c.in_ok-set.rest.now) c.if-is_new.true c.in_ok-set.ensures.read c.in_ok-set.ensures.set c.in_ok-push.ensures.items)
+    rw (← c.sets.view_is) (first_used known c.args.node (record { keys = c.placed.new.known; list = c.push.new.self }) c.in_ok-set.set (bare c.in_ok-set.rest.now) c.if-is_new.true c.in_ok-set.ensures.read c.in_ok-set.ensures.set c.in_ok-push.ensures.items)
 
 pub invariant_of-result-else-is_new : goal.invariant_of-result-else-is_new
 invariant_of-result-else-is_new c =
@@ -48,4 +48,4 @@ invariant_of-result-else-is_new c =
 pub returns-in_ok-rest : goal.returns-in_ok-rest
 returns-in_ok-rest c =
     let known = comes (goal.at.returns-in_ok-rest c).In_ok-place in
-    rw (← c.sets.view_is) (later_used known c.args.node (record { keys = c.placed.new.known; list = with_item c.sets.inside.list c.in_ok-place.place c.later_use.new.set }) c.index_mut.result.now c.later_use.new.set (kinds c.in_ok-rest.rest.now) c.if-is_new.false c.index_mut.ensures.value c.in_ok-rest.ensures.read c.in_ok-rest.ensures.set refl)
+    rw (← c.sets.view_is) (later_used known c.args.node (record { keys = c.placed.new.known; list = with_item c.sets.inside.list c.in_ok-place.place c.later_use.new.set }) c.index_mut.result.now c.later_use.new.set (bare c.in_ok-rest.rest.now) c.if-is_new.false c.index_mut.ensures.value c.in_ok-rest.ensures.read c.in_ok-rest.ensures.set refl)

@@ -1,6 +1,6 @@
 use Rattle.std.proofs.Common.{ℕ, ◌≡◌, ◌<◌, ◌∙◌, List, [], length, get_or, ap, sym, subst, subst₂}
 use Rattle.std.proofs.lemmas.List.{get_or_default}
-use Rattle.lex_tableau.specs.Rows.{Numbers, IsTableau}
+use Rattle.lex_tableau.specs.Rows.{WholeTableau, IsTableau}
 use Rattle.lex_tableau.specs.Columns.{AreColumnsOf}
 use Rattle.lex_tableau.specs.Ratio.{HasEachOnce}
 use Rattle.lex_tableau.proofs.TableauPivotLemmas.{rated_in, solutions_kept, keys_kept, copied_pivot}
@@ -19,12 +19,12 @@ exchange_columns-requires-clause-columns c =
 
 pub invariant_of-result : goal.invariant_of-result
 invariant_of-result c = (
-  (copied_pivot c.args.self.now c.args.row c.args.col c.index-entering.result.now c.index.result.now c.in_ok-starts.starts.items c.in_ok-basics.basics.items c.in_ok-nonbasics.nonbasics.items c.self.inside.rated c.args.numbers.items (subst IsTableau c.self.view_is c.self.invariant.0) (c.in_ok-starts.ensures ∙ c.as_slice.ensures.value ∙ ap (λ (n : Numbers). n.starts) c.self.view_is) (c.in_ok-basics.ensures ∙ c.as_slice-3.ensures.value ∙ ap (λ (n : Numbers). n.basics) c.self.view_is) (c.in_ok-nonbasics.ensures ∙ c.as_slice-4.ensures.value ∙ ap (λ (n : Numbers). n.nonbasics) c.self.view_is) (ap (λ (n : Numbers). n.rated) c.self.view_is) c.requires.row_in c.requires.col_in c.requires.entry c.requires.shape c.requires.pivot_row c.requires.others c.index-entering.ensures c.index.ensures).0,
+  (copied_pivot c.args.self.now c.args.row c.args.col c.index-entering.result.now c.index.result.now c.in_ok-starts.starts.items c.in_ok-basics.basics.items c.in_ok-nonbasics.nonbasics.items c.self.inside.rated c.args.numbers.items (subst IsTableau c.self.view_is c.self.invariant.0) (c.in_ok-starts.ensures ∙ c.as_slice.ensures.value ∙ ap (λ (n : WholeTableau). n.starts) c.self.view_is) (c.in_ok-basics.ensures ∙ c.as_slice-3.ensures.value ∙ ap (λ (n : WholeTableau). n.basics) c.self.view_is) (c.in_ok-nonbasics.ensures ∙ c.as_slice-4.ensures.value ∙ ap (λ (n : WholeTableau). n.nonbasics) c.self.view_is) (ap (λ (n : WholeTableau). n.rated) c.self.view_is) c.requires.row_in c.requires.col_in c.requires.entry c.requires.shape c.requires.pivot_row c.requires.others c.index-entering.ensures c.index.ensures).0,
   columns_read _ _ _ _ _ _ c.args.col c.index.result.now _ (c.as_slice-7.ensures.value ∙ sym (c.in_ok-nonbasics.ensures ∙ c.as_slice-4.ensures.value)) left (c.as_slice-5.ensures.value ∙ sym (c.in_ok-starts.ensures ∙ c.as_slice.ensures.value)) (sym (take_all c.exchange_columns.new.columns _ c.in_ok-columns.columns.len (c.exchange_columns.ensures.length ∙ c.as_mut_slice.ensures.len))) c.exchange_columns.ensures.columns,
 )
   where
     basics_are : c.as_slice-6.result.now ≡ c.args.self.now.basics
-    basics_are = c.as_slice-6.ensures.value ∙ ap (λ (n : Numbers). n.basics) c.self.view_is
+    basics_are = c.as_slice-6.ensures.value ∙ ap (λ (n : WholeTableau). n.basics) c.self.view_is
 
     row_in : c.args.row < length c.as_slice-6.result.now
     row_in = subst (λ (xs : List ℕ). c.args.row < length xs) (sym basics_are) (rated_in c.args.self.now c.args.row (subst IsTableau c.self.view_is c.self.invariant.0) c.requires.row_in)
@@ -34,7 +34,7 @@ invariant_of-result c = (
 
 pub returns-clause-pivot : goal.returns-clause-pivot
 returns-clause-pivot c =
-    (copied_pivot c.args.self.now c.args.row c.args.col c.index-entering.result.now c.index.result.now c.in_ok-starts.starts.items c.in_ok-basics.basics.items c.in_ok-nonbasics.nonbasics.items c.self.inside.rated c.args.numbers.items (subst IsTableau c.self.view_is c.self.invariant.0) (c.in_ok-starts.ensures ∙ c.as_slice.ensures.value ∙ ap (λ (n : Numbers). n.starts) c.self.view_is) (c.in_ok-basics.ensures ∙ c.as_slice-3.ensures.value ∙ ap (λ (n : Numbers). n.basics) c.self.view_is) (c.in_ok-nonbasics.ensures ∙ c.as_slice-4.ensures.value ∙ ap (λ (n : Numbers). n.nonbasics) c.self.view_is) (ap (λ (n : Numbers). n.rated) c.self.view_is) c.requires.row_in c.requires.col_in c.requires.entry c.requires.shape c.requires.pivot_row c.requires.others c.index-entering.ensures c.index.ensures).1
+    (copied_pivot c.args.self.now c.args.row c.args.col c.index-entering.result.now c.index.result.now c.in_ok-starts.starts.items c.in_ok-basics.basics.items c.in_ok-nonbasics.nonbasics.items c.self.inside.rated c.args.numbers.items (subst IsTableau c.self.view_is c.self.invariant.0) (c.in_ok-starts.ensures ∙ c.as_slice.ensures.value ∙ ap (λ (n : WholeTableau). n.starts) c.self.view_is) (c.in_ok-basics.ensures ∙ c.as_slice-3.ensures.value ∙ ap (λ (n : WholeTableau). n.basics) c.self.view_is) (c.in_ok-nonbasics.ensures ∙ c.as_slice-4.ensures.value ∙ ap (λ (n : WholeTableau). n.nonbasics) c.self.view_is) (ap (λ (n : WholeTableau). n.rated) c.self.view_is) c.requires.row_in c.requires.col_in c.requires.entry c.requires.shape c.requires.pivot_row c.requires.others c.index-entering.ensures c.index.ensures).1
 
 pub returns-clause-valid : goal.returns-clause-valid
 returns-clause-valid c = (invariant_of-result c).0

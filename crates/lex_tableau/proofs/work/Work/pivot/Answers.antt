@@ -1,10 +1,10 @@
 use Rattle.std.proofs.Common.{subst}
-use Rattle.lex_tableau.specs.Rows.{Numbers, HasSolutionsOf}
+use Rattle.lex_tableau.specs.Rows.{WholeTableau, HasSolutionsOf}
 use Rattle.lex_tableau.specs.Ratio.{KeepsPositiveKeys}
 use Rattle.lex_tableau.proofs.work.Work.pivot.Goals as goal
 
 pub returns-clause-solutions : goal.returns-clause-solutions
-returns-clause-solutions g c = subst (λ (n : Numbers). HasSolutionsOf n c.take_numbers.new.self) c.self.view_is c.take_numbers.ensures.solutions
+returns-clause-solutions g c = subst (λ (n : WholeTableau). HasSolutionsOf n c.take_numbers.new.self) c.self.view_is c.take_numbers.ensures.solutions
 
 pub returns-clause-keys : goal.returns-clause-keys
-returns-clause-keys g c = subst (λ (n : Numbers). KeepsPositiveKeys n c.args.row c.args.col c.take_numbers.new.self) c.self.view_is c.take_numbers.ensures.keys
+returns-clause-keys g c = subst (λ (n : WholeTableau). KeepsPositiveKeys n c.args.row c.args.col c.take_numbers.new.self) c.self.view_is c.take_numbers.ensures.keys

@@ -1,5 +1,6 @@
 use Rattle.std.proofs.Common.{◌≡◌, ◌<◌, ◌∙◌, ap, sym, subst, arith}
 use Rattle.game_theory.specs.Behaviour.{action_probability}
+use Rattle.game_theory.proofs.OwnSetLemmas.{is_own-told}
 use Rattle.ne_checker.specs.TreeBoards.{game_of}
 use Rattle.ne_checker.proofs.TreeWeightStepLemmas.{weight-kept, weight-more, weight-read}
 use Rattle.ne_checker.proofs.trees_board.Board.next_weight.Goals as goal
@@ -16,7 +17,7 @@ returns-then-is_own c = λ b reads weights.
     let t = game_of c.args.self.now in
     let later : 0 < c.args.node = omega arith in
     let set = ap t.set (sym c.parent-parent.ensures) ∙ sym c.set.ensures ∙ c.in-Some.is in
-    weight-kept t b c.args.player c.args.node c.in-Some.set c.requires.board.tree later c.requires.node set _ (c.is_own.ensures.0 c.if-is_own.true)
+    weight-kept t b c.args.player c.args.node c.in-Some.set c.requires.board.tree later c.requires.node set _ ((is_own-told t c.args.player c.in-Some.set _ c.is_own.ensures).0 c.if-is_own.true)
     (c.index-weights-parent-then-is_own.is ∙ weight-read t b c.args.player c.args.node c.parent-parent.result c.args.weights.now _ c.requires.board.tree later c.requires.node c.requires.weights c.parent-parent.ensures weights)
 
 pub probability-prob-requires-clause-action : goal.probability-prob-requires-clause-action
@@ -33,7 +34,7 @@ returns c = λ b reads weights.
     let t = game_of c.args.self.now in
     let later : 0 < c.args.node = omega arith in
     let set = ap t.set (sym c.parent-parent.ensures) ∙ sym c.set.ensures ∙ c.in-Some.is in
-    weight-more t b c.args.player c.args.node c.in-Some.set c.requires.board.tree later c.requires.node set _ _ _ (λ o. cc (c.is_own.ensures.1 o, c.if-is_own.false))
+    weight-more t b c.args.player c.args.node c.in-Some.set c.requires.board.tree later c.requires.node set _ _ _ (λ o. cc ((is_own-told t c.args.player c.in-Some.set _ c.is_own.ensures).1 o, c.if-is_own.false))
     (c.index-weights-parent-2.is ∙ weight-read t b c.args.player c.args.node c.parent-parent.result c.args.weights.now _ c.requires.board.tree later c.requires.node c.requires.weights c.parent-parent.ensures weights)
     (c.probability-prob.ensures b reads ∙ ap (λ a. action_probability t b c.in-Some.set a) c.branch-self.ensures)
     c.mul.ensures.value c.mul.ensures.fits c.mul.ensures.step c.mul.ensures.unfit

@@ -2,6 +2,7 @@ use Rattle.std.proofs.Common.{◌≡◌, ◌∙◌, ◌<◌, sym, arith}
 use Rattle.std.proofs.lemmas.List.{get_or_default}
 use Rattle.std.proofs.lemmas.Result.{err_from_is_err_and}
 use Rattle.rational.specs.Rational.{zero_ℚ}
+use Rattle.game_theory.proofs.OwnSetLemmas.{is_own-told}
 use Rattle.pure_payoffs.proofs.PlaceLemmas.{child-found}
 use Rattle.ne_checker.specs.TreeSides.{game_at}
 use Rattle.ne_checker.proofs.TreeReplyStepLemmas.{own-gives, other-gives, reply-after_refused, reply-product_refused, reply-added}
@@ -69,7 +70,7 @@ value-returns t c = λ b choice first decided from.
 pub value_after-bounds-values-child : goal.value_after-bounds-values-child
 value_after-bounds-values-child t c =
     let set = sym c.set.ensures ∙ c.in-Some.is in
-    let own = c.is_own.ensures.0 c.if-is_own.true in
+    let own = (is_own-told (game_at c.args.self.now) c.args.self.now.player c.in-Some.set _ c.is_own.ensures).0 c.if-is_own.true in
     let below = c.requires.choices.within c.in-Some.set (c.requires.side.tree.sets_within c.args.node c.in-Some.set c.requires.node set) own in
     let found = child-found (λ v. v.items) _ c.args.self.now.children.now c.args.node c.in-Some.set _ c.index-self-node.result c.index-child.result.now c.requires.side.tree c.requires.side.children_are c.requires.node set below c.index-child.ensures in
     omega (arith, found.2, c.requires.values)
@@ -77,7 +78,7 @@ value_after-bounds-values-child t c =
 pub value_after-returns-then-is_own : goal.value_after-returns-then-is_own
 value_after-returns-then-is_own t c = λ b choice first decided from.
     let set = sym c.set.ensures ∙ c.in-Some.is in
-    let own = c.is_own.ensures.0 c.if-is_own.true in
+    let own = (is_own-told (game_at c.args.self.now) c.args.self.now.player c.in-Some.set _ c.is_own.ensures).0 c.if-is_own.true in
     let below = c.requires.choices.within c.in-Some.set (c.requires.side.tree.sets_within c.args.node c.in-Some.set c.requires.node set) own in
     let found = child-found (λ v. v.items) _ c.args.self.now.children.now c.args.node c.in-Some.set _ c.index-self-node.result c.index-child.result.now c.requires.side.tree c.requires.side.children_are c.requires.node set below c.index-child.ensures in
     let value = c.index-values-child.is ∙ get_or_default c.args.values.now c.index-child.result.now _ zero_ℚ (omega (arith, found.2, c.requires.values)) ∙ chosen-known _ b _ choice _ _ _ first decided c.args.node c.in-Some.set c.index-child.result.now c.requires.side.tree c.requires.node set own from found.0 in
@@ -85,4 +86,4 @@ value_after-returns-then-is_own t c = λ b choice first decided from.
 
 pub value_after-returns-else-is_own : goal.value_after-returns-else-is_own
 value_after-returns-else-is_own t c = λ b choice first decided from.
-    other-gives _ b c.args.self.now.player choice c.requires.side.tree c.args.node c.in-Some.set _ (sym c.set.ensures ∙ c.in-Some.is) (λ o. cc (c.if-is_own.ensures.1 o)) (c.children_sum.ensures b choice first decided from)
+    other-gives _ b c.args.self.now.player choice c.requires.side.tree c.args.node c.in-Some.set _ (sym c.set.ensures ∙ c.in-Some.is) (λ o. cc ((is_own-told (game_at c.args.self.now) c.args.self.now.player c.in-Some.set _ c.if-is_own.ensures).1 o)) (c.children_sum.ensures b choice first decided from)
