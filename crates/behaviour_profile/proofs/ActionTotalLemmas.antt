@@ -9,9 +9,9 @@ use Rattle.game_theory.specs.Behaviour.{is_index}
 use Rattle.game_core.specs.Tree.{GameTree, IsGameTree}
 use Rattle.game_core.specs.TreeGame.{game_of_tree}
 use Rattle.strategy_lists.proofs.ActionCountLemmas.{actions-below}
-use Rattle.strategy_lists.proofs.OwnNumberLemmas.{own_numbers-next}
+use Rattle.game_theory.proofs.IndexLemmas.{numbers_with-next}
 use Rattle.behaviour_profile.specs.EntryTests.{action_counts}
-use Rattle.game_theory.specs.OwnSets.{own_counts, own_numbers}
+use Rattle.game_theory.specs.OwnSets.{own_counts, numbers_with}
 use Rattle.behaviour_profile.proofs.GroupListLemmas.{sum-append, sum-cons, sum-nil}
 use Rattle.lists.proofs.ElementLemmas.{made-next}
 
@@ -41,14 +41,14 @@ parts-most (Some j) n (suc p) = go (j == p) (Decides-eqb j p) (parts-most (Some 
 -- ---- the sets below one
 module _ (t : Tree) where
   abbrev own_total : ℕ → ℕ → ℕ
-  own_total i n = sum (map t.actions (own_numbers t.owner i n))
+  own_total i n = sum (map t.actions (numbers_with t.owner i n))
 
   own-next : (i n : ℕ) → own_total i (suc n) ≡ own_total i n + (if is_index (t.owner n) i then t.actions n else 0)
-  own-next i n = ap (λ xs. sum (map t.actions xs)) (own_numbers-next t.owner i n) ∙ go (is_index (t.owner n) i)
+  own-next i n = ap (λ xs. sum (map t.actions xs)) (numbers_with-next t.owner i n) ∙ go (is_index (t.owner n) i)
     where
-      go : (b : Bool) → sum (map t.actions (own_numbers t.owner i n ++ (if b then n ∷ [] else []))) ≡ own_total i n + (if b then t.actions n else 0)
-      go true = ap sum (map-append t.actions (own_numbers t.owner i n) (n ∷ [])) ∙ sum-append (map t.actions (own_numbers t.owner i n)) (t.actions n ∷ []) ∙ omega (arith, sum-cons (t.actions n) [], sum-nil)
-      go false = ap (λ xs. sum (map t.actions xs)) (append-nil (own_numbers t.owner i n)) ∙ omega arith
+      go : (b : Bool) → sum (map t.actions (numbers_with t.owner i n ++ (if b then n ∷ [] else []))) ≡ own_total i n + (if b then t.actions n else 0)
+      go true = ap sum (map-append t.actions (numbers_with t.owner i n) (n ∷ [])) ∙ sum-append (map t.actions (numbers_with t.owner i n)) (t.actions n ∷ []) ∙ omega (arith, sum-cons (t.actions n) [], sum-nil)
+      go false = ap (λ xs. sum (map t.actions xs)) (append-nil (numbers_with t.owner i n)) ∙ omega arith
 
   abbrev total_below : ℕ → ℕ → ℕ
   total_below zero n = 0

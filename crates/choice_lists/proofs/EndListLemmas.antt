@@ -1,7 +1,7 @@
 -- The ends of the walk are exactly the reduced strategies, each once.
 use Rattle.std.proofs.Common.{ℕ, zero, suc, ◌+◌, ◌<◌, ◌≤◌, ◌≡◌, ◌≢◌, ◌⊎◌, inl, inr, Bool, true, false, ◌&&◌, Some, None, List, [], ◌∷◌, ◌++◌, length, get_or, set, replicate, All, Contains, refl, sym, ap, ◌∙◌, subst, arith}
 use Rattle.std.specs.Prelude.{◌==◌, ◌-◌, slice_get, if◌then◌else◌}
-use Rattle.std.specs.List.{AllPairs}
+use Rattle.std.specs.List.{AllPairs, flat_map, range_with_len}
 use Rattle.std.proofs.Math.ListN as lists
 use Rattle.std.proofs.lemmas.Bool.{cases_eq, cases_lt, eq-eqb}
 use Rattle.std.proofs.lemmas.Bool.Decides.{eqb_tells}
@@ -10,22 +10,22 @@ use Rattle.std.proofs.lemmas.List.Elements.{All-nil, All-cons, All-append, Conta
 use Rattle.std.proofs.lemmas.List.Kept.{AllPairs-cons}
 use Rattle.choice_lists.specs.declared.decision.Decision.{Decision}
 use Rattle.choice_lists.specs.Reduced.{AreLinked, IsReducedBy}
-use Rattle.choice_lists.specs.Ends.{is_led_to, branches, ends}
+use Rattle.choice_lists.specs.Ends.{is_led_to, ends}
 use Rattle.choice_lists.proofs.ReachedDecisionLemmas.{Extends, IsOnWay, IsOnWay-start, IsOnWay-branch, IsOnWay-pass, AreBelow, IsReducedBy-end, told-reached, told-extends, led-extends, led-reached, place-within}
 
 -- ---- branches
 -- what holds in each branch holds in all
-All-branches : (P : List ℕ → Type 0) (each : ℕ → List (List ℕ)) (a n : ℕ) → ((b : ℕ) → a ≤ b → b < a + n → All P (each b)) → All P (branches each a n)
+All-branches : (P : List ℕ → Type 0) (each : ℕ → List (List ℕ)) (a n : ℕ) → ((b : ℕ) → a ≤ b → b < a + n → All P (each b)) → All P (flat_map each (range_with_len a n))
 All-branches P each a zero h = All-nil P
 All-branches P each a (suc n) h =
-    All-append P (each a) (branches each (suc a) n) (h a (omega arith) (omega arith)) (All-branches P each (suc a) n (λ b low high. h b (omega arith) (omega arith)))
+    All-append P (each a) (flat_map each (range_with_len (a + 1) n)) (h a (omega arith) (omega arith)) (All-branches P each (a + 1) n (λ b low high. h b (omega arith) (omega arith)))
 
 -- a member of a branch is a member
-Contains-branches : (each : ℕ → List (List ℕ)) (a n b : ℕ) (x : List ℕ) → a ≤ b → b < a + n → Contains (each b) x → Contains (branches each a n) x
+Contains-branches : (each : ℕ → List (List ℕ)) (a n b : ℕ) (x : List ℕ) → a ≤ b → b < a + n → Contains (each b) x → Contains (flat_map each (range_with_len a n)) x
 Contains-branches each a zero b x low high c = absurd (omega arith)
 Contains-branches each a (suc n) b x low high c = elim (cases_eq b a) [
-  | inl e ↦ Contains-append_left (each a) (branches each (suc a) n) x (subst (λ v. Contains (each v) x) e c)
-  | inr ne ↦ Contains-append_right (each a) (branches each (suc a) n) x (Contains-branches each (suc a) n b x (omega arith) (omega arith) c)
+  | inl e ↦ Contains-append_left (each a) (flat_map each (range_with_len (a + 1) n)) x (subst (λ v. Contains (each v) x) e c)
+  | inr ne ↦ Contains-append_right (each a) (flat_map each (range_with_len (a + 1) n)) x (Contains-branches each (a + 1) n b x (omega arith) (omega arith) c)
 ]
 
 -- a relation between each two of two lists and between them
@@ -41,12 +41,12 @@ abbrev pub Differ : List ℕ → List ℕ → Type 0
 Differ x y = x ≢ y
 
 -- branches whose members a number tells apart
-AllPairs-branches : (tag : List ℕ → ℕ) (each : ℕ → List (List ℕ)) (a n : ℕ) → ((b : ℕ) → a ≤ b → b < a + n → AllPairs Differ (each b)) → ((b : ℕ) → a ≤ b → b < a + n → All (λ x. tag x ≡ b) (each b)) → AllPairs Differ (branches each a n)
+AllPairs-branches : (tag : List ℕ → ℕ) (each : ℕ → List (List ℕ)) (a n : ℕ) → ((b : ℕ) → a ≤ b → b < a + n → AllPairs Differ (each b)) → ((b : ℕ) → a ≤ b → b < a + n → All (λ x. tag x ≡ b) (each b)) → AllPairs Differ (flat_map each (range_with_len a n))
 AllPairs-branches tag each a zero p t = λ i j d l m. absurd (omega arith)
 AllPairs-branches tag each a (suc n) p t =
-    let after : All (λ y. a < tag y) (branches each (suc a) n) = All-branches (λ y. a < tag y) each (suc a) n (λ b low high k d l. omega (arith, t b (omega arith) (omega arith) k d l)) in
-    AllPairs-append Differ (each a) (branches each (suc a) n) (p a (omega arith) (omega arith))
-    (AllPairs-branches tag each (suc a) n (λ b low high. p b (omega arith) (omega arith)) (λ b low high. t b (omega arith) (omega arith)))
+    let after : All (λ y. a < tag y) (flat_map each (range_with_len (a + 1) n)) = All-branches (λ y. a < tag y) each (a + 1) n (λ b low high k d l. omega (arith, t b (omega arith) (omega arith) k d l)) in
+    AllPairs-append Differ (each a) (flat_map each (range_with_len (a + 1) n)) (p a (omega arith) (omega arith))
+    (AllPairs-branches tag each (a + 1) n (λ b low high. p b (omega arith) (omega arith)) (λ b low high. t b (omega arith) (omega arith)))
     (λ k d l i e m same. omega (arith, t a (omega arith) (omega arith) k d l, after i e m, ap tag same))
 
 -- ---- a decision
@@ -88,16 +88,16 @@ abbrev pub ends_with : List ℕ → Decision → List Decision → List Bool →
 ends_with actions d ds reach choices a = ends actions ds (reach ++ true ∷ []) (set choices d.place a)
 
 -- the ends where the walk branches
-pub ends-branch : (actions : List ℕ) (d : Decision) (ds : List Decision) (reach : List Bool) (choices : List ℕ) → Branches reach choices d → ends actions (d ∷ ds) reach choices ≡ branches (ends_with actions d ds reach choices) 1 (get_or actions d.place 0)
+pub ends-branch : (actions : List ℕ) (d : Decision) (ds : List Decision) (reach : List Bool) (choices : List ℕ) → Branches reach choices d → ends actions (d ∷ ds) reach choices ≡ flat_map (ends_with actions d ds reach choices) (range_with_len 1 (get_or actions d.place 0))
 unfolding ends
 ends-branch actions d ds reach choices b =
-    ap (λ t. if t then branches (ends_with actions d ds reach choices) 1 (get_or actions d.place 0) else ends actions ds (reach ++ is_led_to reach choices d.before ∷ []) choices) (test_true (is_led_to reach choices d.before) (get_or choices d.place 0) b.0 b.1)
+    ap (λ t. if t then flat_map (ends_with actions d ds reach choices) (range_with_len 1 (get_or actions d.place 0)) else ends actions ds (reach ++ is_led_to reach choices d.before ∷ []) choices) (test_true (is_led_to reach choices d.before) (get_or choices d.place 0) b.0 b.1)
 
 -- the ends where it passes
 pub ends-pass : (actions : List ℕ) (d : Decision) (ds : List Decision) (reach : List Bool) (choices : List ℕ) → Passes reach choices d → ends actions (d ∷ ds) reach choices ≡ ends actions ds (reach ++ is_led_to reach choices d.before ∷ []) choices
 unfolding ends
 ends-pass actions d ds reach choices p =
-    ap (λ t. if t then branches (ends_with actions d ds reach choices) 1 (get_or actions d.place 0) else ends actions ds (reach ++ is_led_to reach choices d.before ∷ []) choices) (test_false (is_led_to reach choices d.before) (get_or choices d.place 0) p)
+    ap (λ t. if t then flat_map (ends_with actions d ds reach choices) (range_with_len 1 (get_or actions d.place 0)) else ends actions ds (reach ++ is_led_to reach choices d.before ∷ []) choices) (test_false (is_led_to reach choices d.before) (get_or choices d.place 0) p)
 
 -- ---- the decisions that are left
 -- the decisions from number n on

@@ -1,21 +1,26 @@
 -- Leaving out decisions that add no end to the walk.
-use Rattle.std.proofs.Common.{ℕ, zero, suc, ◌+◌, ◌-◌, ◌<◌, ◌≤◌, ◌≡◌, inl, inr, Bool, true, false, ◌&&◌, Option, Some, None, List, [], ◌∷◌, ◌++◌, length, get_or, set, drop, replicate, Contains, append_assoc, refl, sym, ap, ap₂, ◌∙◌, subst, arith}
+use Rattle.std.proofs.Common.{ℕ, zero, suc, ◌+◌, ◌-◌, ◌<◌, ◌≤◌, ◌≡◌, inl, inr, Bool, true, false, ◌&&◌, Option, Some, None, List, [], ◌∷◌, ◌++◌, length, get_or, set, drop, replicate, Contains, append_assoc, refl, sym, ap, ap₂, ◌∙◌, subst, arith, cond, add-one, add-zero}
 use Rattle.std.specs.Prelude.{◌==◌, slice_get, if◌then◌else◌, IfSome}
+use Rattle.std.specs.List.{count_by, flat_map, range_with_len, sum_by}
 use Rattle.std.proofs.Math.ListN as lists
+use Rattle.std.proofs.Math.Path.{fun_ext}
 use Rattle.std.proofs.Math.Seq.{drop-length}
 use Rattle.std.proofs.lemmas.Bool.{cases_eq, cases_lt, cases_Bool}
 use Rattle.std.proofs.lemmas.List.{append-nil, get_or_default, get_or_append_left, get_or_push, length_push, get_or-set_same, get_or-set_other, length-replicate, get_or-replicate}
+use Rattle.std.proofs.lemmas.List.Concat.{length-flat_map}
+use Rattle.std.proofs.lemmas.List.FromFn.{length-range_with_len}
+use Rattle.std.proofs.lemmas.List.Sums.{count_by-le-length, sum_by_push}
 use Rattle.std.proofs.lemmas.Option.{same_Some, slice_get_within, slice_get-get_or}
+use Rattle.lists.proofs.ElementLemmas.{range-last}
 use Rattle.choice_lists.specs.declared.decision.Decision.{Decision}
 use Rattle.choice_lists.specs.declared.decision.Edge.{Edge}
 use Rattle.choice_lists.specs.Reduced.{ComesFrom, AreLinked}
-use Rattle.choice_lists.specs.Ends.{is_led_to, branches, ends}
+use Rattle.choice_lists.specs.Ends.{is_led_to, ends}
 use Rattle.choice_lists.proofs.ReachedDecisionLemmas.{below_or_last, last_entry, one_decision, place-within}
 use Rattle.choice_lists.proofs.EndListLemmas.{AreRest, AreRest-first, AreRest-later, AreRest-all, branches_or_passes, ends-nil, ends-branch, ends-pass, ends_with, all_ends}
 use Rattle.choice_lists.proofs.StepLemmas.{drop-first}
 use Rattle.choice_lists.specs.LeftOut.{is_kept, kept_below, renumbered_edge, renumbered, marked, AreEnough, AreShared}
 use Rattle.choice_lists.specs.Ways.{AreApart}
-use Rattle.choice_lists.proofs.WayProductLemmas.{length-branches, sum-same}
 
 -- the kept ones of these decisions, which are numbered from n
 abbrev pub kept_from : List Bool → ℕ → List Decision → List Decision
@@ -33,11 +38,14 @@ fails_there xs k passes all held fails = not_both (passes true) all (ap passes (
 -- ---- new numbers
 module _ (kept : List Bool) where
   -- one more number below
+  below-one_more : (n : ℕ) (b : Bool) → is_kept kept n ≡ b → kept_below kept (suc n) ≡ kept_below kept n + cond b 1 0
+  below-one_more n b is = ap (count_by (is_kept kept)) (range-last n) ∙ sum_by_push _ (range_with_len 0 n) n ∙ ap (λ c. kept_below kept n + cond c 1 0) is
+
   below-kept : (n : ℕ) → is_kept kept n ≡ true → kept_below kept (suc n) ≡ suc (kept_below kept n)
-  below-kept n held = ap (λ b. if b then suc (kept_below kept n) else kept_below kept n) held
+  below-kept n held = below-one_more n true held ∙ add-one (kept_below kept n)
 
   below-left_out : (n : ℕ) → is_kept kept n ≡ false → kept_below kept (suc n) ≡ kept_below kept n
-  below-left_out n out = ap (λ b. if b then suc (kept_below kept n) else kept_below kept n) out
+  below-left_out n out = below-one_more n false out ∙ add-zero (kept_below kept n)
 
   -- there are no fewer below more
   below-next : (n : ℕ) → kept_below kept n ≤ kept_below kept (suc n)
@@ -250,10 +258,9 @@ module _ (decisions : List Decision) (actions : List ℕ) (kept : List Bool) (li
             let pick = a.same_choices n d at held in
             elim (branches_or_passes reach choices d) [
               | inl b ↦
-                  ap length (ends-branch actions d ds reach choices b) ∙ length-branches (ends_with actions d ds reach choices) 1 m
-                  ∙ sum-same (λ v. length (ends_with actions d ds reach choices v)) (λ v. length (ends_with actions (renumbered kept d) more marks picks v)) 1 m
-                  (λ v. ends-kept ds (reach ++ true ∷ []) (marks ++ true ∷ []) (set choices d.place v) (set picks d.place v) (suc n) later (alike-branch n reach marks choices picks d v a at held))
-                  ∙ sym (whole ∙ ap length (ends-branch actions (renumbered kept d) more marks picks (led ∙ b.0, pick ∙ b.1)) ∙ length-branches (ends_with actions (renumbered kept d) more marks picks) 1 m)
+                  ap length (ends-branch actions d ds reach choices b) ∙ length-flat_map (ends_with actions d ds reach choices) (range_with_len 1 m)
+                  ∙ ap (λ f. sum_by f (range_with_len 1 m)) (fun_ext (λ v. ends-kept ds (reach ++ true ∷ []) (marks ++ true ∷ []) (set choices d.place v) (set picks d.place v) (suc n) later (alike-branch n reach marks choices picks d v a at held)))
+                  ∙ sym (whole ∙ ap length (ends-branch actions (renumbered kept d) more marks picks (led ∙ b.0, pick ∙ b.1)) ∙ length-flat_map (ends_with actions (renumbered kept d) more marks picks) (range_with_len 1 m))
               | inr p ↦
                   ap length (ends-pass actions d ds reach choices p)
                   ∙ ends-kept ds (reach ++ is_led_to reach choices d.before ∷ []) (marks ++ is_led_to reach choices d.before ∷ []) choices picks (suc n) later (alike-pass n reach marks (is_led_to reach choices d.before) choices picks a held)
@@ -264,7 +271,7 @@ module _ (decisions : List Decision) (actions : List ℕ) (kept : List Bool) (li
             let whole : length (ends actions (kept_from kept n (d ∷ ds)) marks picks) ≡ length (ends actions more marks picks) = ap (λ v. length (ends actions v marks picks)) (from-left_out kept n d ds out) in
             elim (branches_or_passes reach choices d) [
               | inl b ↦
-                  ap length (ends-branch actions d ds reach choices b ∙ ap (branches (ends_with actions d ds reach choices) 1) (enough.one_action n d at out) ∙ append-nil (ends_with actions d ds reach choices 1))
+                  ap length (ends-branch actions d ds reach choices b ∙ ap (λ k. flat_map (ends_with actions d ds reach choices) (range_with_len 1 k)) (enough.one_action n d at out) ∙ append-nil (ends_with actions d ds reach choices 1))
                   ∙ ends-kept ds (reach ++ true ∷ []) marks (set choices d.place 1) picks (suc n) later (alike-alone n reach marks choices picks d 1 a at out)
                   ∙ sym whole
               | inr p ↦
@@ -408,8 +415,7 @@ pub record AreNumbered (decisions : List Decision) (kept : List Bool) (n : ℕ) 
 
 -- there are no more than all
 pub kept_below-all : (kept : List Bool) (n : ℕ) → kept_below kept n ≤ n
-kept_below-all kept zero = omega arith
-kept_below-all kept (suc n) = elim (cases_Bool (is_kept kept n)) [ inl held ↦ omega (arith, below-kept kept n held, kept_below-all kept n) | inr out ↦ omega (arith, below-left_out kept n out, kept_below-all kept n) ]
+kept_below-all kept n = omega (arith, count_by-le-length (is_kept kept) (range_with_len 0 n), length-range_with_len 0 n)
 
 -- one more number
 numbers-more : (kept : List Bool) (n number : ℕ) (numbers more : List ℕ) → length numbers ≡ n → ((k : ℕ) → k < n → get_or numbers k 0 ≡ kept_below kept k) → number ≡ kept_below kept n → more ≡ numbers ++ number ∷ [] → (k : ℕ) → k < suc n → get_or more k 0 ≡ kept_below kept k

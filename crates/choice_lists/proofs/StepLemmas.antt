@@ -1,6 +1,8 @@
 -- How the ends to come change with each edge of the walk.
-use Rattle.std.proofs.Common.{ℕ, zero, suc, ◌-◌, ◌<◌, ◌≤◌, ◌≡◌, Bool, true, false, ◌&&◌, Option, Some, None, List, [], ◌∷◌, ◌++◌, length, get_or, set, take, drop, refl, sym, ap, ap₂, ◌∙◌, arith, append_assoc}
+use Rattle.std.proofs.Common.{ℕ, zero, suc, ◌-◌, ◌<◌, ◌≤◌, ◌≡◌, Bool, true, false, ◌&&◌, Option, Some, None, List, [], ◌∷◌, ◌++◌, length, get_or, set, take, drop, refl, sym, ap, ap₂, ◌∙◌, arith, add-one, append_assoc}
 use Rattle.std.specs.Prelude.{◌==◌, slice_get}
+use Rattle.std.specs.List.{flat_map, range_with_len}
+use Rattle.std.proofs.Math.Path.{fun_ext}
 use Rattle.std.proofs.Math.Seq.{drop-cons, take-suc-set}
 use Rattle.std.proofs.lemmas.List.{get_or-set_same, set-get_or, take-set-le, get_or-take}
 use Rattle.std.proofs.lemmas.Option.{slice_get_within, get_or_from_slice_get}
@@ -8,18 +10,13 @@ use Rattle.lists.proofs.ElementLemmas.{set-set}
 use Rattle.choice_lists.specs.declared.decision.Decision.{Decision}
 use Rattle.choice_lists.specs.declared.decision.Edge.{Edge}
 use Rattle.choice_lists.specs.Reduced.{ComesFrom}
-use Rattle.choice_lists.specs.Ends.{is_led_to, branches, ends, place_of, ends_at, later, FallBelow}
+use Rattle.choice_lists.specs.Ends.{is_led_to, ends, place_of, ends_at, later, FallBelow}
 use Rattle.choice_lists.proofs.EndListLemmas.{ends_with, ends-branch, ends-pass}
 
 -- ---- lists
--- branches that are the same for each action
-branches-same : (f g : ℕ → List (List ℕ)) (a n : ℕ) → ((b : ℕ) → f b ≡ g b) → branches f a n ≡ branches g a n
-branches-same f g a zero h = refl
-branches-same f g a (suc n) h = ap₂ (λ v w. v ++ w) (h a) (branches-same f g (suc a) n h)
-
 -- the first of some branches
-branches-first : (f : ℕ → List (List ℕ)) (a n m : ℕ) → n ≡ suc m → branches f a n ≡ f a ++ branches f (suc a) m
-branches-first f a n m e = ap (branches f a) e
+branches-first : (f : ℕ → List (List ℕ)) (a n m : ℕ) → n ≡ suc m → flat_map f (range_with_len a n) ≡ f a ++ flat_map f (range_with_len (suc a) m)
+branches-first f a n m e = ap (λ k. flat_map f (range_with_len a k)) e ∙ ap (λ b. f a ++ flat_map f (range_with_len b m)) (add-one a)
 
 -- ---- the ends to come after the present one
 pub later-nil : (decisions : List Decision) (actions : List ℕ) (reach : List Bool) (choices : List ℕ) → later decisions actions reach [] choices ≡ []
@@ -29,7 +26,7 @@ later-nil decisions actions reach choices = refl
 -- the further actions of the last set, and then those of the others
 later-cons : (decisions : List Decision) (actions : List ℕ) (reach : List Bool) (j : ℕ) (fixed choices : List ℕ)
     → later decisions actions reach (j ∷ fixed) choices
-    ≡ branches (ends_at decisions actions reach choices j) (suc (get_or choices (place_of decisions j) 0)) (get_or actions (place_of decisions j) 0 - get_or choices (place_of decisions j) 0) ++ later decisions actions reach fixed (set choices (place_of decisions j) 0)
+    ≡ flat_map (ends_at decisions actions reach choices j) (range_with_len (suc (get_or choices (place_of decisions j) 0)) (get_or actions (place_of decisions j) 0 - get_or choices (place_of decisions j) 0)) ++ later decisions actions reach fixed (set choices (place_of decisions j) 0)
 unfolding later
 later-cons decisions actions reach j fixed choices = refl
 
@@ -41,20 +38,20 @@ later-entry decisions actions reach r n j (i ∷ fixed) choices f l =
     let earlier : suc i ≤ j = omega (arith, f.0) in
     let each : (a : ℕ) → ends_at decisions actions (set reach j r) choices i a ≡ ends_at decisions actions reach choices i a = λ a. ap (λ v. ends actions (drop (suc i) decisions) v (set choices p a)) (take-set-le (suc i) reach j r earlier) in
     later-cons decisions actions (set reach j r) i fixed choices
-    ∙ ap₂ (λ v w. v ++ w) (branches-same (ends_at decisions actions (set reach j r) choices i) (ends_at decisions actions reach choices i) (suc (get_or choices p 0)) (get_or actions p 0 - get_or choices p 0) each)
+    ∙ ap₂ (λ v w. v ++ w) (ap (λ f. flat_map f (range_with_len (suc (get_or choices p 0)) (get_or actions p 0 - get_or choices p 0))) (fun_ext each))
     (later-entry decisions actions reach r i j fixed (set choices p 0) f.1 (omega arith))
     ∙ sym (later-cons decisions actions reach i fixed choices)
 
 -- those after action a of the last set
 later-set : (decisions : List Decision) (actions : List ℕ) (reach : List Bool) (j : ℕ) (fixed choices : List ℕ) (p a : ℕ) → place_of decisions j ≡ p → p < length choices
-    → later decisions actions reach (j ∷ fixed) (set choices p a) ≡ branches (ends_at decisions actions reach choices j) (suc a) (get_or actions p 0 - a) ++ later decisions actions reach fixed (set choices p 0)
+    → later decisions actions reach (j ∷ fixed) (set choices p a) ≡ flat_map (ends_at decisions actions reach choices j) (range_with_len (suc a) (get_or actions p 0 - a)) ++ later decisions actions reach fixed (set choices p 0)
 later-set decisions actions reach j fixed choices p a place l =
     let here : get_or (set choices p a) (place_of decisions j) 0 ≡ a = ap (λ v. get_or (set choices p a) v 0) place ∙ get_or-set_same choices p a 0 l in
     let each : (b : ℕ) → ends_at decisions actions reach (set choices p a) j b ≡ ends_at decisions actions reach choices j b =
     λ b. ap (λ v. ends actions (drop (suc j) decisions) (take (suc j) reach) (set (set choices p a) v b)) place ∙ ap (ends actions (drop (suc j) decisions) (take (suc j) reach)) (set-set choices p a b ∙ ap (λ v. set choices v b) (sym place)) in
     later-cons decisions actions reach j fixed (set choices p a)
-    ∙ ap₂ (λ v w. branches (ends_at decisions actions reach (set choices p a) j) (suc v) (w - v) ++ later decisions actions reach fixed (set (set choices p a) (place_of decisions j) 0)) here (ap (λ v. get_or actions v 0) place)
-    ∙ ap₂ (λ v w. v ++ later decisions actions reach fixed w) (branches-same (ends_at decisions actions reach (set choices p a) j) (ends_at decisions actions reach choices j) (suc a) (get_or actions p 0 - a) each) (ap (λ v. set (set choices p a) v 0) place ∙ set-set choices p a 0)
+    ∙ ap₂ (λ v w. flat_map (ends_at decisions actions reach (set choices p a) j) (range_with_len (suc v) (w - v)) ++ later decisions actions reach fixed (set (set choices p a) (place_of decisions j) 0)) here (ap (λ v. get_or actions v 0) place)
+    ∙ ap₂ (λ v w. v ++ later decisions actions reach fixed w) (ap (λ f. flat_map f (range_with_len (suc a) (get_or actions p 0 - a))) (fun_ext each)) (ap (λ v. set (set choices p a) v 0) place ∙ set-set choices p a 0)
 
 -- ---- an edge back
 -- the last set has a further action
@@ -63,7 +60,7 @@ pub later-further : (decisions : List Decision) (actions : List ℕ) (reach : Li
 later-further decisions actions reach j fixed choices p place l more =
     let c = get_or choices p 0 in
     let m = get_or actions p 0 in
-    let rest = branches (ends_at decisions actions reach choices j) (suc (suc c)) (m - suc c) in
+    let rest = flat_map (ends_at decisions actions reach choices j) (range_with_len (suc (suc c)) (m - suc c)) in
     let others = later decisions actions reach fixed (set choices p 0) in
     let first = ends_at decisions actions reach choices j (suc c) in
     let again = set-get_or choices p 0 in
@@ -79,8 +76,8 @@ pub later-last : (decisions : List Decision) (actions : List ℕ) (reach : List 
 later-last decisions actions reach j fixed choices p place most =
     let none : get_or actions p 0 - get_or choices p 0 ≡ 0 = omega arith in
     sym (later-cons decisions actions reach j fixed choices
-    ∙ ap (λ v. branches (ends_at decisions actions reach choices j) (suc (get_or choices v 0)) (get_or actions v 0 - get_or choices v 0) ++ later decisions actions reach fixed (set choices v 0)) place
-    ∙ ap (λ v. branches (ends_at decisions actions reach choices j) (suc (get_or choices p 0)) v ++ later decisions actions reach fixed (set choices p 0)) none)
+    ∙ ap (λ v. flat_map (ends_at decisions actions reach choices j) (range_with_len (suc (get_or choices v 0)) (get_or actions v 0 - get_or choices v 0)) ++ later decisions actions reach fixed (set choices v 0)) place
+    ∙ ap (λ v. flat_map (ends_at decisions actions reach choices j) (range_with_len (suc (get_or choices p 0)) v) ++ later decisions actions reach fixed (set choices p 0)) none)
 
 -- ---- an edge forward
 -- the first reached decisions are enough for an edge from an earlier decision
@@ -128,7 +125,7 @@ branch-forward decisions actions reach j d fixed choices from at l fall within s
     ap (later decisions actions new fixed) (ap (set choices d.place) (sym none) ∙ set-get_or choices d.place 0) ∙ later-entry decisions actions reach true j j fixed choices fall (omega arith) in
     ap₂ (λ v w. v ++ w)
     (ap (λ v. ends actions rest v (set choices d.place 1)) front)
-    (later-set decisions actions new j fixed choices d.place 1 place within ∙ ap₂ (λ v w. v ++ w) (branches-same (ends_at decisions actions new choices j) each 2 (m - 1) same) others)
-    ∙ sym (append_assoc (each 1) (branches each 2 (m - 1)) (later decisions actions reach fixed choices))
+    (later-set decisions actions new j fixed choices d.place 1 place within ∙ ap₂ (λ v w. v ++ w) (ap (λ f. flat_map f (range_with_len 2 (m - 1))) (fun_ext same)) others)
+    ∙ sym (append_assoc (each 1) (flat_map each (range_with_len 2 (m - 1))) (later decisions actions reach fixed choices))
     ∙ ap (λ v. v ++ later decisions actions reach fixed choices)
     (sym (branches-first each 1 m (m - 1) (omega arith)) ∙ sym (ends-branch actions d rest (take j reach) choices (also, none)) ∙ ap (λ v. ends actions v (take j reach) choices) (sym (drop-first decisions j d at)))

@@ -1,15 +1,17 @@
 -- Counting the ways from the last decision to the first, up to a limit.
-use Rattle.std.proofs.Common.{ℕ, zero, suc, ◌+◌, ◌*◌, ◌<◌, ◌≤◌, ◌^◌, ◌≡◌, inl, inr, Bool, true, false, ◌&&◌, Option, Some, None, List, [], ◌∷◌, ◌++◌, length, map, min, get_or, set, replicate, refl, sym, ap, ap₂, ◌∙◌, subst, arith, mul-le-mul, mul_comm, mul-one, mul-zero, zero-mul}
+use Rattle.std.proofs.Common.{ℕ, suc, ◌+◌, ◌*◌, ◌<◌, ◌≤◌, ◌^◌, ◌≡◌, inl, inr, Bool, true, false, ◌&&◌, Option, Some, None, List, [], ◌∷◌, ◌++◌, length, map, min, get_or, set, replicate, take, refl, sym, ap, ap₂, ◌∙◌, subst, arith, mul-le-mul, mul_comm, mul-one, mul-zero, zero-mul}
 use Rattle.std.specs.Prelude.{◌==◌, slice_get, if◌then◌else◌}
+use Rattle.std.specs.List.{range_with_len, sum, sum_by}
 use Rattle.std.proofs.Math.ListN as lists
 use Rattle.std.proofs.Math.Seq.{drop-length}
 use Rattle.std.proofs.lemmas.Bool.{cases_eq, cases_lt, ne_eqb, eq-eqb}
 use Rattle.std.proofs.lemmas.List.{get_or-set_same, get_or-set_other, get_or_append_left, get_or_push, length_push, map-append, length-map, length-replicate, get_or-replicate, get_or-map, map-set}
+use Rattle.std.proofs.lemmas.List.Sums.{sum_by-cons, sum_by_more}
 use Rattle.std.proofs.lemmas.Option.{slice_get_within}
 use Rattle.choice_lists.specs.declared.decision.Decision.{Decision}
 use Rattle.choice_lists.specs.declared.decision.Edge.{Edge}
 use Rattle.choice_lists.specs.Reduced.{ComesFrom, AreLinked}
-use Rattle.choice_lists.specs.Ways.{AreAfter, leads_from, product_where, sum_branches, ways_from, ways_where}
+use Rattle.choice_lists.specs.Ways.{AreAfter, leads_from, product_where, ways_from, ways_where}
 use Rattle.choice_lists.proofs.ReachedDecisionLemmas.{one_decision, below_or_last}
 use Rattle.choice_lists.proofs.StepLemmas.{drop-first}
 
@@ -48,32 +50,23 @@ min-times x y limit positive = elim (cases_lt 0 x) [
       | inr large ↦ let one = above-limit (min x limit) (min y limit) limit (omega arith) (omega arith) in let two = above-limit x y limit large also in omega arith
     ]
 
--- a sum with one more number at its end
-pub sum-more : (f : ℕ → ℕ) (a n : ℕ) → sum_branches f a (suc n) ≡ sum_branches f a n + f (a + n)
-sum-more f a zero = let e : a + 0 ≡ a = omega arith in ap (λ v. f v + 0) (sym e) ∙ omega arith
-sum-more f a (suc n) = let e : suc a + n ≡ a + suc n = omega arith in ap (λ v. f a + v) (sum-more f (suc a) n ∙ ap (λ v. sum_branches f (suc a) n + f v) e) ∙ omega arith
-
 -- a sum of numbers up to the limit
-sum-limited : (f g : ℕ → ℕ) (a n limit : ℕ) → ((b : ℕ) → a ≤ b → b < a + n → g b ≡ min (f (suc b)) limit) → min (sum_branches g a n) limit ≡ min (sum_branches f (suc a) n) limit
-sum-limited f g a zero limit h = refl
-sum-limited f g a (suc n) limit h =
-    let rest = sum-limited f g (suc a) n limit (λ b low high. h b (omega arith) (omega arith)) in
-    let here = h a (omega arith) (omega arith) in
-    omega (arith, rest, here)
+sum-limited : (f : ℕ → ℕ) (numbers : List ℕ) (a limit : ℕ) → ((k : ℕ) → k < length numbers → get_or numbers k 0 ≡ min (f (a + k)) limit) → min (sum numbers) limit ≡ min (sum_by f (range_with_len a (length numbers))) limit
+sum-limited f [] a limit h = refl
+sum-limited f (x ∷ numbers) a limit h =
+    let rest = sum-limited f numbers (a + 1) limit (λ k l. let e : a + suc k ≡ a + 1 + k = omega arith in h (suc k) (omega arith) ∙ ap (λ m. min (f m) limit) e) in
+    let e : a + 0 ≡ a = omega arith in
+    let here : x ≡ min (f a) limit = h 0 (omega arith) ∙ ap (λ m. min (f m) limit) e in
+    omega (arith, rest, here, sum_by-cons (λ y. y) x numbers, sum_by-cons f a (range_with_len (a + 1) (length numbers)))
 
 -- a sum up to the limit with one more number
-pub sum-next : (numbers : List ℕ) (n sum limit : ℕ) → limit < 2 ^ 64 → sum ≡ min (sum_branches (λ k. get_or numbers k 0) 0 n) limit → min (min (sum + get_or numbers n 0) 18446744073709551615) limit ≡ min (sum_branches (λ k. get_or numbers k 0) 0 (suc n)) limit
-sum-next numbers n sum limit fits is =
-    let more : sum_branches (λ k. get_or numbers k 0) 0 (suc n) ≡ sum_branches (λ k. get_or numbers k 0) 0 n + get_or numbers n 0 = sum-more (λ k. get_or numbers k 0) 0 n ∙ ap (λ m. sum_branches (λ k. get_or numbers k 0) 0 n + get_or numbers m 0) (omega arith) in
-    go (sum_branches (λ k. get_or numbers k 0) 0 n) (get_or numbers n 0) (sum_branches (λ k. get_or numbers k 0) 0 (suc n)) is more
-  where
-    go : (s x t : ℕ) → sum ≡ min s limit → t ≡ s + x → min (min (sum + x) 18446744073709551615) limit ≡ min t limit
-    go s x t is more = omega arith
+pub sum-next : (numbers : List ℕ) (n so_far limit : ℕ) → limit < 2 ^ 64 → n < length numbers → so_far ≡ min (sum (take n numbers)) limit → min (min (so_far + get_or numbers n 0) 18446744073709551615) limit ≡ min (sum (take (n + 1) numbers)) limit
+sum-next numbers n so_far limit fits within is = let more = sum_by_more (λ x. x) numbers n 0 within in omega (arith, fits, is, more)
 
 -- ---- the products
 -- the product with one more decision
 ways_where-next : (decisions : List Decision) (actions : List ℕ) (n : ℕ) (d : Decision) (passes : Option Edge → Bool) → slice_get decisions n ≡ Some d
-    → ways_where decisions actions n passes ≡ (if passes d.before then sum_branches (λ a. ways_where decisions actions (suc n) (leads_from n a)) 1 (get_or actions d.place 0) * ways_where decisions actions (suc n) passes else ways_where decisions actions (suc n) passes)
+    → ways_where decisions actions n passes ≡ (if passes d.before then sum_by (λ a. ways_where decisions actions (suc n) (leads_from n a)) (range_with_len 1 (get_or actions d.place 0)) * ways_where decisions actions (suc n) passes else ways_where decisions actions (suc n) passes)
 ways_where-next decisions actions n d passes at = ap (λ ds. product_where passes ds (ways_from actions n ds)) (drop-first decisions n d at)
 
 -- with no decision left each product is 1
@@ -122,10 +115,11 @@ AreAfter-ones items decisions actions n rows all o limit positive =
 
 -- the sum of a decision's numbers is that of its ways
 pub sum-following : (decisions : List Decision) (actions : List ℕ) (n limit : ℕ) (rows : List (List ℕ)) (d : Decision) → AreAfter decisions actions (suc n) limit rows → slice_get decisions n ≡ Some d
-    → min (sum_branches (λ k. get_or (get_or rows n []) k 0) 0 (length (get_or rows n []))) limit ≡ min (sum_branches (λ a. ways_where decisions actions (suc n) (leads_from n a)) 1 (get_or actions d.place 0)) limit
+    → min (sum (get_or rows n [])) limit ≡ min (sum_by (λ a. ways_where decisions actions (suc n) (leads_from n a)) (range_with_len 1 (get_or actions d.place 0))) limit
 sum-following decisions actions n limit rows d b at =
-    ap (λ m. min (sum_branches (λ k. get_or (get_or rows n []) k 0) 0 m) limit) (b.rooms n d at)
-    ∙ sum-limited (λ a. ways_where decisions actions (suc n) (leads_from n a)) (λ k. get_or (get_or rows n []) k 0) 0 (get_or actions d.place 0) limit (λ k low high. b.products n k d at (omega arith))
+    let ways : ℕ → ℕ = λ a. ways_where decisions actions (suc n) (leads_from n a) in
+    sum-limited ways (get_or rows n []) 1 limit (λ k l. let e : suc k ≡ 1 + k = omega arith in b.products n k d at (omega (arith, l, b.rooms n d at)) ∙ ap (λ m. min (ways m) limit) e)
+    ∙ ap (λ m. min (sum_by ways (range_with_len 1 m)) limit) (b.rooms n d at)
 
 -- a decision with nothing before it changes no product
 pub AreAfter-first : (decisions : List Decision) (actions : List ℕ) (n limit : ℕ) (rows : List (List ℕ)) (d : Decision) → slice_get decisions n ≡ Some d → d.before ≡ None → AreAfter decisions actions (suc n) limit rows → AreAfter decisions actions n limit rows
@@ -136,7 +130,7 @@ AreAfter-first decisions actions n limit rows d at before b = record {
 }
   where
     ways : ℕ → ℕ
-    ways m = sum_branches (λ a. ways_where decisions actions (suc m) (leads_from m a)) 1 (get_or actions d.place 0)
+    ways m = sum_by (λ a. ways_where decisions actions (suc m) (leads_from m a)) (range_with_len 1 (get_or actions d.place 0))
 
     others : ℕ → ℕ → ℕ
     others j a = ways_where decisions actions (suc n) (leads_from j (suc a))
@@ -145,7 +139,7 @@ AreAfter-first decisions actions n limit rows d at before b = record {
 module _ (decisions : List Decision) (actions : List ℕ) (n limit : ℕ) (rows : List (List ℕ)) (d : Decision) (edge : Edge) (at : slice_get decisions n ≡ Some d) (before : d.before ≡ Some edge) (b : AreAfter decisions actions (suc n) limit rows) where
   -- the ways from the decision
   abbrev pub ways_on : ℕ
-  ways_on = sum_branches (λ a. ways_where decisions actions (suc n) (leads_from n a)) 1 (get_or actions d.place 0)
+  ways_on = sum_by (λ a. ways_where decisions actions (suc n) (leads_from n a)) (range_with_len 1 (get_or actions d.place 0))
 
   -- the row of the decision before
   abbrev pub row_before : List ℕ
@@ -214,10 +208,10 @@ module _ (decisions : List Decision) (actions : List ℕ) (n limit : ℕ) (rows 
           ]
 
 -- the product over the decisions with nothing before them, with such a decision, and with another
-pub first-more : (decisions : List Decision) (actions : List ℕ) (n limit first ways : ℕ) (d : Decision) → 0 < limit → slice_get decisions n ≡ Some d → d.before ≡ None → ways ≡ min (sum_branches (λ a. ways_where decisions actions (suc n) (leads_from n a)) 1 (get_or actions d.place 0)) limit
+pub first-more : (decisions : List Decision) (actions : List ℕ) (n limit first ways : ℕ) (d : Decision) → 0 < limit → slice_get decisions n ≡ Some d → d.before ≡ None → ways ≡ min (sum_by (λ a. ways_where decisions actions (suc n) (leads_from n a)) (range_with_len 1 (get_or actions d.place 0))) limit
     → first ≡ min (ways_where decisions actions (suc n) is_first) limit → min (first * ways) limit ≡ min (ways_where decisions actions n is_first) limit
 first-more decisions actions n limit first ways d positive at before ways_are is =
-    let w = sum_branches (λ a. ways_where decisions actions (suc n) (leads_from n a)) 1 (get_or actions d.place 0) in
+    let w = sum_by (λ a. ways_where decisions actions (suc n) (leads_from n a)) (range_with_len 1 (get_or actions d.place 0)) in
     let rest = ways_where decisions actions (suc n) is_first in
     ap₂ (λ v u. min (v * u) limit) is ways_are ∙ min-times rest w limit positive
     ∙ ap (λ v. min v limit) (mul_comm rest w ∙ sym (ways_where-next decisions actions n d is_first at ∙ ap (λ o. if is_first o then w * rest else rest) before))
@@ -225,7 +219,7 @@ first-more decisions actions n limit first ways d positive at before ways_are is
 pub first-stays : (decisions : List Decision) (actions : List ℕ) (n limit first : ℕ) (d : Decision) (edge : Edge) → slice_get decisions n ≡ Some d → d.before ≡ Some edge → first ≡ min (ways_where decisions actions (suc n) is_first) limit → first ≡ min (ways_where decisions actions n is_first) limit
 first-stays decisions actions n limit first d edge at before is =
     is ∙ ap (λ v. min v limit) (sym (ways_where-next decisions actions n d is_first at
-    ∙ ap (λ o. if is_first o then sum_branches (λ a. ways_where decisions actions (suc n) (leads_from n a)) 1 (get_or actions d.place 0) * ways_where decisions actions (suc n) is_first else ways_where decisions actions (suc n) is_first) before))
+    ∙ ap (λ o. if is_first o then sum_by (λ a. ways_where decisions actions (suc n) (leads_from n a)) (range_with_len 1 (get_or actions d.place 0)) * ways_where decisions actions (suc n) is_first else ways_where decisions actions (suc n) is_first) before))
 
 -- ---- the loop's turns
 -- the list at a place
@@ -234,14 +228,14 @@ row-at items rows k v within is = ap items is ∙ sym (get_or-map items rows k v
 
 -- the limited sum of the row of a decision is that of its ways
 pub ways-summed : {V : Type 0} (items : V → List ℕ) (decisions : List Decision) (actions : List ℕ) (n limit ways : ℕ) (rows : List V) (d : Decision) (v : V) (row : List ℕ) → AreAfter decisions actions (suc n) limit (map items rows) → slice_get decisions n ≡ Some d
-    → v ≡ get_or rows n v → row ≡ items v → ways ≡ min (sum_branches (λ k. get_or row k 0) 0 (length row)) limit → ways ≡ min (sum_branches (λ a. ways_where decisions actions (suc n) (leads_from n a)) 1 (get_or actions d.place 0)) limit
-ways-summed items decisions actions n limit ways rows d v row b at is row_is sum =
+    → v ≡ get_or rows n v → row ≡ items v → ways ≡ min (sum row) limit → ways ≡ min (sum_by (λ a. ways_where decisions actions (suc n) (leads_from n a)) (range_with_len 1 (get_or actions d.place 0))) limit
+ways-summed items decisions actions n limit ways rows d v row b at is row_is ways_are =
     let within : n < length rows = omega (arith, slice_get_within decisions n d at, b.one_for_each, length-map rows items) in
-    sum ∙ ap (λ w. min (sum_branches (λ k. get_or w k 0) 0 (length w)) limit) (row_is ∙ row-at items rows n v within is) ∙ sum-following decisions actions n limit (map items rows) d b at
+    ways_are ∙ ap (λ w. min (sum w) limit) (row_is ∙ row-at items rows n v within is) ∙ sum-following decisions actions n limit (map items rows) d b at
 
 -- the rows with one that was multiplied
 pub AreAfter-multiplied : {V : Type 0} (items : V → List ℕ) (decisions : List Decision) (actions : List ℕ) (n limit ways : ℕ) (rows : List V) (d : Decision) (edge : Edge) (old new : V) → slice_get decisions n ≡ Some d → d.before ≡ Some edge → AreAfter decisions actions (suc n) limit (map items rows)
-    → 0 < limit → ways ≡ min (sum_branches (λ a. ways_where decisions actions (suc n) (leads_from n a)) 1 (get_or actions d.place 0)) limit → edge.decision < length rows → old ≡ get_or rows edge.decision old → items new ≡ set (items old) edge.action (min (get_or (items old) edge.action 0 * ways) limit)
+    → 0 < limit → ways ≡ min (sum_by (λ a. ways_where decisions actions (suc n) (leads_from n a)) (range_with_len 1 (get_or actions d.place 0))) limit → edge.decision < length rows → old ≡ get_or rows edge.decision old → items new ≡ set (items old) edge.action (min (get_or (items old) edge.action 0 * ways) limit)
     → AreAfter decisions actions n limit (map items (set rows edge.decision new))
 AreAfter-multiplied items decisions actions n limit ways rows d edge old new at before b positive ways_are within old_is new_is =
     let row = row-at items rows edge.decision old within old_is in

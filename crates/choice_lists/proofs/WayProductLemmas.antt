@@ -1,33 +1,26 @@
 -- The ways to go on from each decision, and how many ends the walk has, where no set has two decisions.
-use Rattle.std.proofs.Common.{ℕ, zero, suc, ◌+◌, ◌*◌, ◌<◌, ◌≤◌, ◌≡◌, ◌⊎◌, inl, inr, Bool, true, false, ◌&&◌, Option, Some, None, List, [], ◌∷◌, ◌++◌, length, get_or, set, replicate, refl, sym, ap, ap₂, ◌∙◌, arith, add-mul, mul_assoc, mul_left_comm}
+use Rattle.std.proofs.Common.{ℕ, zero, suc, ◌+◌, ◌*◌, ◌<◌, ◌≤◌, ◌≡◌, ◌⊎◌, inl, inr, Bool, true, false, ◌&&◌, Option, Some, None, List, [], ◌∷◌, ◌++◌, length, get_or, set, replicate, refl, sym, ap, ap₂, ◌∙◌, arith, add-mul, zero-mul, mul_assoc, mul_left_comm}
 use Rattle.std.specs.Prelude.{◌==◌, slice_get, if◌then◌else◌}
+use Rattle.std.specs.List.{range_with_len, sum_by}
 use Rattle.std.proofs.Math.ListN as lists
+use Rattle.std.proofs.Math.Path.{fun_ext}
 use Rattle.std.proofs.lemmas.Bool.{cases_eq, ne_eqb, eq-eqb}
 use Rattle.std.proofs.lemmas.List.{get_or-set_same, get_or-set_other, length-replicate, get_or-replicate}
+use Rattle.std.proofs.lemmas.List.Concat.{length-flat_map}
+use Rattle.std.proofs.lemmas.List.Recursion.{is_sum_by}
+use Rattle.std.proofs.lemmas.List.Sums.{sum_by-cons}
 use Rattle.choice_lists.specs.declared.decision.Decision.{Decision}
 use Rattle.choice_lists.specs.declared.decision.Edge.{Edge}
 use Rattle.choice_lists.specs.Reduced.{ComesFrom, AreLinked}
-use Rattle.choice_lists.specs.Ends.{is_led_to, branches, ends}
-use Rattle.choice_lists.specs.Ways.{AreApart, leads_from, product_where, sum_branches, ways_from}
+use Rattle.choice_lists.specs.Ends.{is_led_to, ends}
+use Rattle.choice_lists.specs.Ways.{AreApart, leads_from, product_where, ways_from}
 use Rattle.choice_lists.proofs.WayCountLemmas.{is_first}
 use Rattle.choice_lists.proofs.ReachedDecisionLemmas.{last_entry, one_decision, place-within}
 use Rattle.choice_lists.proofs.EndListLemmas.{AreRest, AreRest-first, AreRest-later, AreRest-all, ends-nil, ends-branch, ends-pass, ends_with, all_ends}
 
--- ---- sums
--- branches have together as many members as each of them has
-pub length-branches : (each : ℕ → List (List ℕ)) (a n : ℕ) → length (branches each a n) ≡ sum_branches (λ b. length (each b)) a n
-length-branches each a zero = refl
-length-branches each a (suc n) = lists.length-append (each a) (branches each (suc a) n) ∙ ap (λ v. length (each a) + v) (length-branches each (suc a) n)
-
--- sums of the same numbers
-pub sum-same : (f g : ℕ → ℕ) (a n : ℕ) → ((b : ℕ) → f b ≡ g b) → sum_branches f a n ≡ sum_branches g a n
-sum-same f g a zero h = refl
-sum-same f g a (suc n) h = ap₂ (λ v w. v + w) (h a) (sum-same f g (suc a) n h)
-
 -- a sum of products with one number
-sum-times : (f : ℕ → ℕ) (y a n : ℕ) → sum_branches (λ b. f b * y) a n ≡ sum_branches f a n * y
-sum-times f y a zero = omega arith
-sum-times f y a (suc n) = ap (λ v. f a * y + v) (sum-times f y (suc a) n) ∙ sym (add-mul (f a) (sum_branches f (suc a) n) y)
+sum-times : (f : ℕ → ℕ) (y : ℕ) (xs : List ℕ) → sum_by (λ x. f x * y) xs ≡ sum_by f xs * y
+sum-times f y xs = sym (is_sum_by (λ v. sum_by f v * y) (λ x. f x * y) (zero-mul y) (λ x v. ap (λ s. s * y) (sum_by-cons f x v) ∙ add-mul (f x) (sum_by f v) y) xs)
 
 -- ---- products
 -- of two tests one is that of the product, and the other does not pass
@@ -145,7 +138,7 @@ module _ (decisions : List Decision) (actions : List ℕ) (linked : AreLinked de
 
       -- the product with this decision, where it is led to or not
       with_decision : Bool → ℕ
-      with_decision b = if b then sum_branches by_action 1 (get_or actions d.place 0) * others else others
+      with_decision b = if b then sum_by by_action (range_with_len 1 (get_or actions d.place 0)) * others else others
 
       split : (a : ℕ) → product_where (is_led_to (reach ++ true ∷ []) (set choices d.place a)) ds ways ≡ by_action a * others
       split a =
@@ -158,9 +151,9 @@ module _ (decisions : List Decision) (actions : List ℕ) (linked : AreLinked de
           → length (ends actions (d ∷ ds) reach choices) ≡ with_decision (is_led_to reach choices d.before)
       go true led each passed =
           ap length (ends-branch actions d ds reach choices (led, none n d (omega arith) here))
-          ∙ length-branches (ends_with actions d ds reach choices) 1 (get_or actions d.place 0)
-          ∙ sum-same (λ a. length (ends_with actions d ds reach choices a)) (λ a. by_action a * others) 1 (get_or actions d.place 0) (λ a. each a ∙ split a)
-          ∙ sum-times by_action others 1 (get_or actions d.place 0)
+          ∙ length-flat_map (ends_with actions d ds reach choices) (range_with_len 1 (get_or actions d.place 0))
+          ∙ ap (λ f. sum_by f (range_with_len 1 (get_or actions d.place 0))) (fun_ext (λ a. each a ∙ split a))
+          ∙ sum-times by_action others (range_with_len 1 (get_or actions d.place 0))
           ∙ ap with_decision (sym led)
       go false led each passed =
           ap length (ends-pass actions d ds reach choices (λ h. let clash : true ≡ false = sym h ∙ led in cc))

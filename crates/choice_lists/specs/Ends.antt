@@ -1,5 +1,6 @@
 -- The ends of the walk in the order in which it comes to them.
-use Rattle.std.specs.Prelude.{ℕ, zero, suc, ◌<◌, ◌≤◌, ◌-◌, ◌≡◌, ◌==◌, ◌&&◌, Bool, true, false, if◌then◌else◌, List, [], ◌∷◌, ◌++◌, length, map, reverse, take, drop, slice_index, slice_index_or, slice_set, replicate, Option, Some, None}
+use Rattle.std.specs.Prelude.{ℕ, suc, ◌<◌, ◌≤◌, ◌-◌, ◌≡◌, ◌==◌, ◌&&◌, Bool, true, false, if◌then◌else◌, List, [], ◌∷◌, ◌++◌, length, map, reverse, take, drop, slice_index, slice_index_or, slice_set, replicate, Option, Some, None}
+use Rattle.std.specs.List.{flat_map, range_with_len}
 use Rattle.choice_lists.specs.declared.decision.Decision.{Decision}
 use Rattle.choice_lists.specs.declared.decision.Edge.{Edge}
 use Rattle.choice_lists.specs.declared.walk.Walk.{Walk}
@@ -10,17 +11,12 @@ abbrev pub is_led_to : List Bool → List ℕ → Option Edge → Bool
 is_led_to reach choices None = true
 is_led_to reach choices (Some edge) = slice_index_or reach edge.decision false && (slice_index choices edge.place == suc edge.action)
 
--- the lists for an action and for the n - 1 after it
-abbrev pub branches : (ℕ → List (List ℕ)) → ℕ → ℕ → List (List ℕ)
-branches lists action zero = []
-branches lists action (suc n) = lists action ++ branches lists (suc action) n
-
 -- the choices at the ends of the walk over the decisions that are left
 unfoldable pub ends : List ℕ → List Decision → List Bool → List ℕ → List (List ℕ)
 ends actions [] reach choices = choices ∷ []
 ends actions (d ∷ ds) reach choices =
     if is_led_to reach choices d.before && (slice_index choices d.place == 0)
-    then branches (λ a. ends actions ds (reach ++ true ∷ []) (slice_set choices d.place a)) 1 (slice_index actions d.place)
+    then flat_map (λ a. ends actions ds (reach ++ true ∷ []) (slice_set choices d.place a)) (range_with_len 1 (slice_index actions d.place))
     else ends actions ds (reach ++ is_led_to reach choices d.before ∷ []) choices
 
 -- the place of a decision's set
@@ -35,7 +31,7 @@ ends_at decisions actions reach choices j a = ends actions (drop (suc j) decisio
 unfoldable pub later : List Decision → List ℕ → List Bool → List ℕ → List ℕ → List (List ℕ)
 later decisions actions reach [] choices = []
 later decisions actions reach (j ∷ fixed) choices =
-    branches (ends_at decisions actions reach choices j) (suc (slice_index choices (place_of decisions j))) (slice_index actions (place_of decisions j) - slice_index choices (place_of decisions j))
+    flat_map (ends_at decisions actions reach choices j) (range_with_len (suc (slice_index choices (place_of decisions j))) (slice_index actions (place_of decisions j) - slice_index choices (place_of decisions j)))
     ++ later decisions actions reach fixed (slice_set choices (place_of decisions j) 0)
 
 -- numbers below n that fall

@@ -1,5 +1,6 @@
 -- Decisions that add no end to the walk are left out.
-use Rattle.std.specs.Prelude.{ℕ, zero, suc, ◌≡◌, Bool, true, false, if◌then◌else◌, List, [], length, slice_get, slice_index, slice_index_or, slice_set, replicate, Option, Some, None}
+use Rattle.std.specs.Prelude.{ℕ, ◌≡◌, Bool, true, false, List, [], length, slice_get, slice_index, slice_index_or, slice_set, replicate, Option, Some, None}
+use Rattle.std.specs.List.{count_by, range_with_len}
 use Rattle.choice_lists.specs.declared.decision.Decision.{Decision}
 use Rattle.choice_lists.specs.declared.decision.Edge.{Edge}
 use Rattle.choice_lists.specs.Ends.{ends}
@@ -14,8 +15,7 @@ is_kept kept n = slice_index_or kept n false
 
 -- how many numbers below n are kept
 abbrev pub kept_below : List Bool → ℕ → ℕ
-kept_below kept zero = 0
-kept_below kept (suc n) = if is_kept kept n then suc (kept_below kept n) else kept_below kept n
+kept_below kept n = count_by (is_kept kept) (range_with_len 0 n)
 
 -- an edge and a decision by the new numbers
 abbrev pub renumbered_edge : List Bool → Option Edge → Option Edge

@@ -1,5 +1,6 @@
 -- In how many ways the walk goes on from each decision, where no set has two of them.
-use Rattle.std.specs.Prelude.{ℕ, zero, suc, ◌+◌, ◌*◌, ◌<◌, ◌≡◌, ◌==◌, ◌&&◌, Bool, false, if◌then◌else◌, min, List, [], ◌∷◌, length, slice_get, slice_index, slice_index_or, drop, Option, Some, None}
+use Rattle.std.specs.Prelude.{ℕ, suc, ◌*◌, ◌<◌, ◌≡◌, ◌==◌, ◌&&◌, Bool, false, if◌then◌else◌, min, List, [], ◌∷◌, length, slice_get, slice_index, slice_index_or, drop, Option, Some, None}
+use Rattle.std.specs.List.{range_with_len, sum_by}
 use Rattle.choice_lists.specs.declared.decision.Decision.{Decision}
 use Rattle.choice_lists.specs.declared.decision.Edge.{Edge}
 
@@ -18,17 +19,12 @@ product_where passes [] numbers = 1
 product_where passes (d ∷ ds) [] = 1
 product_where passes (d ∷ ds) (n ∷ numbers) = if passes d.before then n * product_where passes ds numbers else product_where passes ds numbers
 
--- the sum over an action and the n - 1 after it
-abbrev pub sum_branches : (ℕ → ℕ) → ℕ → ℕ → ℕ
-sum_branches f action zero = 0
-sum_branches f action (suc n) = f action + sum_branches f (suc action) n
-
 -- In how many ways the walk goes on from each of these decisions, which are numbered from n: for each action the product of the
 -- ways of the decisions to which it leads, and these added.
 abbrev pub ways_from : List ℕ → ℕ → List Decision → List ℕ
 ways_from actions n [] = []
 ways_from actions n (d ∷ ds) =
-    sum_branches (λ a. product_where (leads_from n a) ds (ways_from actions (suc n) ds)) 1 (slice_index actions d.place) ∷ ways_from actions (suc n) ds
+    sum_by (λ a. product_where (leads_from n a) ds (ways_from actions (suc n) ds)) (range_with_len 1 (slice_index actions d.place)) ∷ ways_from actions (suc n) ds
 
 -- the product of the ways of the decisions from number n on to which a passing edge leads
 abbrev pub ways_where : List Decision → List ℕ → ℕ → (Option Edge → Bool) → ℕ

@@ -1,8 +1,9 @@
 // Counting reduced strategies.
 ghost use Rattle.std.specs.Prelude.{◌≡◌, ◌<◌, ◌+◌, ◌*◌, ◌^◌, List, ℕ, length, map, min, replicate, slice_index, slice_set, IfOk, []};
+ghost use Rattle.std.specs.List.{sum};
 ghost use Rattle.choice_lists.specs.Ends.{ends};
 ghost use Rattle.choice_lists.specs.Reduced.{AreLinked, AreReducedBy};
-ghost use Rattle.choice_lists.specs.Ways.{AreApart, AreAfter, sum_branches};
+ghost use Rattle.choice_lists.specs.Ways.{AreApart, AreAfter};
 
 use crate::decision::Decision;
 use crate::kept::{kept_decisions, shared_sets};
@@ -19,7 +20,7 @@ fn product(left: usize, right: usize, limit: usize) -> usize
 
 // The sum of numbers, but at most the limit.
 fn sum(numbers: &[usize], limit: usize) -> usize
-    ensures { result ≡ min (sum_branches (slice_index numbers.now) 0 (length numbers.now)) limit }
+    ensures { result ≡ min (sum numbers.now) limit }
 {
     let mut sum: usize = 0;
     for number in numbers {

@@ -1,7 +1,7 @@
 -- Refusals of what the tools for two players make of a game, and print of two plans, come from the contents of the input,
 -- and the steps that they name do not fit.
 use Rattle.std.proofs.Common.{ℕ, ◌≡◌, ◌≢◌, inl, inr, refl, subst, sym, Bool, true, false, List, length, Err}
-use Rattle.std.specs.List.{range_with_len}
+use Rattle.std.specs.List.{range_with_len, enumerate_from}
 use Rattle.answers.specs.Answers.{Answer, only, such_that, refuse_where, ◌>>=◌, ◌>>◌, refused_by}
 use Rattle.frac128.specs.FirstUnfit.{all_fit}
 use Rattle.frac128.specs.Steps.{Step, StepFits}
@@ -24,7 +24,7 @@ use Rattle.reduced_form.specs.Stops.{reduced_form_of}
 use Rattle.reduced_form.specs.declared.stop.ReduceStop.{ReduceStop}
 use Rattle.reduced_form.specs.declared.stop.ReduceStop.TheVariants as reduce_stop
 use Rattle.sequence_data.specs.Data.{IsFormOf, SideData, form_of_leaves}
-use Rattle.sequence_data.specs.Steps.{gathering_in, leaf_steps, numbered}
+use Rattle.sequence_data.specs.Steps.{gathering_in, leaf_steps}
 use Rattle.sequence_data.specs.declared.stop.SeqStop.TheVariants as sequence_stop
 use Rattle.sequence_data.specs.declared.types.Leaf.{Leaf}
 use Rattle.sequence_form.specs.Forms.{of_two_players, table_form, table_leaves, tree_form}
@@ -111,7 +111,7 @@ players-reasons n = where-reasons sequence_refusal (n ≢ 2) (sequence_stop.NotT
 leaves-reasons : (first second : SideData) (leaves : List Leaf) → AreReasons sequence_refusal (form_of_leaves first second leaves)
 leaves-reasons first second leaves =
     then-reasons sequence_refusal (gathering_in leaves) (λ _. such_that (IsFormOf first second leaves))
-    (fitting-reasons sequence_refusal (λ stop. sequence_stop.Range stop.0.1.place stop.1) (leaf_steps leaves) (numbered 0 leaves) (λ stop u. u))
+    (fitting-reasons sequence_refusal (λ stop. sequence_stop.Range stop.0.1.place stop.1) (leaf_steps leaves) (enumerate_from 0 leaves) (λ stop u. u))
     (λ _ stop h. absurd h)
 
 tree_form-contents : (t : GameTree) → AreReasons sequence_refusal (tree_form t)

@@ -1,51 +1,14 @@
 -- The lists of the players' own sets, one set after another.
-use Rattle.std.proofs.Common.{◌≡◌, ◌<◌, ◌≤◌, ◌+◌, ◌∙◌, sym, ap, ap₂, subst, refl, ℕ, zero, suc, Bool, true, false, cond, Option, Some, None, List, [], ◌∷◌, ◌++◌, length, get_or, set, below_more, arith, take, map, All, inl, inr, option_map, add-one}
-use Rattle.std.specs.Prelude.{filter}
-use Rattle.std.specs.List.{range_with_len}
+use Rattle.std.proofs.Common.{◌≡◌, ◌<◌, ◌+◌, ◌∙◌, sym, ap, subst, refl, ℕ, Some, None, List, [], ◌∷◌, ◌++◌, length, get_or, set, below_more, arith, take, map, All, inl, inr, option_map}
 use Rattle.std.proofs.lemmas.Bool.{cases_eq, eqb-true, eq-eqb, false_from_ne_true}
-use Rattle.std.proofs.lemmas.List.{append-nil, length-set, get_or-set_same, get_or-set_other, get_or_append_left, get_or_push, length_push, length-take-le, get_or-map, map-set, map_push, take_more, length-map}
-use Rattle.std.proofs.lemmas.List.Elements.{All-map, filter-append}
+use Rattle.std.proofs.lemmas.List.{length-set, get_or-set_same, get_or-set_other, get_or_append_left, get_or_push, length_push, length-take-le, get_or-map, map-set, take_more, length-map}
 use Rattle.std.proofs.lemmas.Option.{slice_get-get_or, slice_get_read, slice_get-map, get_or_from_slice_get, same_Some}
-use Rattle.lists.proofs.ElementLemmas.{range-last}
 use Rattle.game_core.specs.OwnSets.{AreOwnLists, numbers_owned}
 use Rattle.game_theory.specs.Behaviour.{is_index}
+use Rattle.game_theory.proofs.IndexLemmas.{places_with-last, places_with-other}
 use Rattle.game_core.specs.Tree.{GameTree, IsGameTree, InformationSet, IsBelow}
 
--- ---- the numbers of the sets that a player owns
--- tests that agree on the numbers pick the same ones
-filter-same : (p q : ℕ → Bool) (m n : ℕ) → ((k : ℕ) → k < m + n → p k ≡ q k) → filter p (range_with_len m n) ≡ filter q (range_with_len m n)
-filter-same p q m zero same = refl
-filter-same p q m (suc n) same = rw (same m (omega arith), filter-same p q (m + 1) n (λ k below. same k (omega arith))) refl
-
--- a test that fails at each of the numbers picks none
-filter-none : (p : ℕ → Bool) (m n : ℕ) → ((k : ℕ) → k < m + n → p k ≡ false) → filter p (range_with_len m n) ≡ []
-filter-none p m zero fails = refl
-filter-none p m (suc n) fails = rw (fails m (omega arith), filter-none p (m + 1) n (λ k below. fails k (omega arith))) refl
-
--- one more set comes last among its owner's own sets
-numbers_owned-push : (i : ℕ) (sets : List InformationSet) (last : InformationSet) → numbers_owned (sets ++ last ∷ []) i ≡ numbers_owned sets i ++ cond (is_index last.owner i) (length sets ∷ []) []
-numbers_owned-push i sets last =
-    ap (λ n. filter owns (range_with_len 0 n)) (length_push sets last ∙ add-one (length sets)) ∙ ap (filter owns) (range-last (length sets)) ∙ filter-append owns (range_with_len 0 (length sets)) (length sets ∷ [])
-    ∙ ap₂ (λ xs b. xs ++ cond b (length sets ∷ []) []) (filter-same owns _ 0 (length sets) before) at_last
-  where
-    owns : ℕ → Bool
-    owns s = is_index (get_or (map (λ set. set.owner) (sets ++ last ∷ [])) s None) i
-
-    before : (k : ℕ) → k < 0 + length sets → owns k ≡ is_index (get_or (map (λ set. set.owner) sets) k None) i
-    before k below = ap (λ o. is_index o i) (ap (λ xs. get_or xs k None) (map_push (λ set. set.owner) sets last) ∙ get_or_append_left (map (λ set. set.owner) sets) (last.owner ∷ []) None k (omega (arith, below, length-map sets (λ set. set.owner))))
-
-    at_last : owns (length sets) ≡ is_index last.owner i
-    at_last = ap (λ o. is_index o i) (ap (λ xs. get_or xs (length sets) None) (map_push (λ set. set.owner) sets last) ∙ get_or_push (map (λ set. set.owner) sets) last.owner None (length sets) (length-map sets (λ set. set.owner)))
-
--- the set is not the player's own
-numbers_owned-other : (i : ℕ) (sets : List InformationSet) (last : InformationSet) → is_index last.owner i ≡ false → numbers_owned (sets ++ last ∷ []) i ≡ numbers_owned sets i
-numbers_owned-other i sets last other = numbers_owned-push i sets last ∙ ap (λ b. numbers_owned sets i ++ cond b (length sets ∷ []) []) other ∙ append-nil (numbers_owned sets i)
-
--- the set is the player's own
-numbers_owned-own : (i : ℕ) (sets : List InformationSet) (last : InformationSet) → is_index last.owner i ≡ true → numbers_owned (sets ++ last ∷ []) i ≡ numbers_owned sets i ++ length sets ∷ []
-numbers_owned-own i sets last own = numbers_owned-push i sets last ∙ ap (λ b. numbers_owned sets i ++ cond b (length sets ∷ []) []) own
-
--- ---- lists of them
+-- ---- the lists
 -- one more player without sets
 pub AreOwnLists-one_more : (players : ℕ) (lists : List (List ℕ)) → AreOwnLists [] players lists → AreOwnLists [] (players + 1) (lists ++ [] ∷ [])
 AreOwnLists-one_more players lists h = record {
@@ -60,14 +23,14 @@ AreOwnLists-one_more players lists h = record {
 AreOwnLists-chance : (sets : List InformationSet) (last : InformationSet) (players : ℕ) (lists : List (List ℕ)) → last.owner ≡ None → AreOwnLists sets players lists → AreOwnLists (sets ++ last ∷ []) players lists
 AreOwnLists-chance sets last players lists owner h = record {
   one_for_each = h.one_for_each;
-  are_own = λ i below. h.are_own i below ∙ ap Some (sym (numbers_owned-other i sets last (ap (λ o. is_index o i) owner)));
+  are_own = λ i below. h.are_own i below ∙ ap Some (sym (places_with-other (λ set. set.owner) sets last i (ap (λ o. is_index o i) owner)));
 }
 
 -- the list of one player after one more set of another player or of that player
 list_after : (sets : List InformationSet) (last : InformationSet) (player i : ℕ) (lists : List (List ℕ)) → last.owner ≡ Some player → i < length lists → get_or lists i [] ≡ numbers_owned sets i → get_or (set lists player (get_or lists player [] ++ length sets ∷ [])) i [] ≡ numbers_owned (sets ++ last ∷ []) i
 list_after sets last player i lists owner below h = elim (cases_eq i player) [
-  | inl same ↦ rw same (get_or-set_same lists player _ [] (rw same at below) ∙ ap (λ v. v ++ length sets ∷ []) (rw same at h) ∙ sym (numbers_owned-own player sets last (ap (λ o. is_index o player) owner ∙ eq-eqb player player refl)))
-  | inr other ↦ get_or-set_other lists player i _ [] other ∙ h ∙ sym (numbers_owned-other i sets last (ap (λ o. is_index o i) owner ∙ false_from_ne_true _ (λ same. other (sym (eqb-true player i same)))))
+  | inl same ↦ rw same (get_or-set_same lists player _ [] (rw same at below) ∙ ap (λ v. v ++ length sets ∷ []) (rw same at h) ∙ sym (places_with-last (λ set. set.owner) sets last player (ap (λ o. is_index o player) owner ∙ eq-eqb player player refl)))
+  | inr other ↦ get_or-set_other lists player i _ [] other ∙ h ∙ sym (places_with-other (λ set. set.owner) sets last i (ap (λ o. is_index o i) owner ∙ false_from_ne_true _ (λ same. other (sym (eqb-true player i same)))))
 ]
 
 -- one more set of a player
@@ -91,15 +54,6 @@ AreOwnLists-step_player f sets k here players player lists old new below is owne
 -- a set's owner is one of the players
 pub owner_within : (sets : List InformationSet) (k : ℕ) (here : InformationSet) (players player : ℕ) → All (λ set. IsBelow players set.owner) sets → k < length sets → here ≡ get_or sets k here → here.owner ≡ Some player → player < players
 owner_within sets k here players player owners below is owner = subst (IsBelow players) (ap (λ set. set.owner) (sym is) ∙ owner) (owners k here below)
-
--- a number that is no player's owns no set
-pub numbers_owned-nobody : (i players : ℕ) (sets : List InformationSet) → All (λ set. IsBelow players set.owner) sets → players ≤ i → numbers_owned sets i ≡ []
-numbers_owned-nobody i players sets owners past =
-    filter-none _ 0 (length sets) (λ k below. other (get_or (map (λ set. set.owner) sets) k None) (All-map (IsBelow players) (λ set. set.owner) sets owners k None (omega (arith, below, length-map sets (λ set. set.owner)))))
-  where
-    other : (owner : Option ℕ) → IsBelow players owner → is_index owner i ≡ false
-    other None within = refl
-    other (Some player) within = false_from_ne_true _ (λ same. let e = eqb-true player i same in absurd (omega arith))
 
 -- a player's list has the numbers of the player's own sets
 pub own_list : {V : Type 0} (f : V → List ℕ) (sets : List InformationSet) (players player : ℕ) (lists : List V) (list : V) → AreOwnLists sets players (map f lists) → player < length lists → list ≡ get_or lists player list → numbers_owned sets player ≡ f list

@@ -39,14 +39,14 @@ action_place : (node a n i : ℕ) → i < n → IsAmong (Some node, a + i) (bran
 action_place node a zero i below = absurd (omega arith)
 action_place node a (suc n) zero below = inl (ap (λ b. (Some node, b)) (omega arith))
 action_place node a (suc n) (suc i) below =
-    let later : suc a + i ≡ a + suc i = omega arith in
-    inr (rw later at (action_place node (suc a) n i (omega arith)))
+    let later : a + 1 + i ≡ a + suc i = omega arith in
+    inr (rw later at (action_place node (a + 1) n i (omega arith)))
 
 -- a place of one of a node's actions
 place_is : (p : OpenBranch) (node a n : ℕ) → IsAmong p (branches_after (Some node) a n) → (p.0 ≡ Some node) × (a ≤ p.1) × (p.1 < a + n)
 place_is p node a zero h = absurd h
 place_is p node a (suc n) (inl here) = let branch : p.1 ≡ a = ap (λ q. q.1) here in (ap (λ q. q.0) here, omega arith, omega arith)
-place_is p node a (suc n) (inr later) = let h = place_is p node (suc a) n later in (h.0, omega arith, omega arith)
+place_is p node a (suc n) (inr later) = let h = place_is p node (a + 1) n later in (h.0, omega arith, omega arith)
 
 -- each open branch is taken
 taken : (sets : List InformationSet) (k : ℕ) (nodes : List Node) (free : List OpenBranch) (p : OpenBranch) → AreInPrefixOrder sets k nodes free [] → IsAmong p free → (j : ℕ) × (j < length nodes) × (branch_at nodes j ≡ p)
@@ -106,7 +106,7 @@ AreDistinct-append (p ∷ ps) qs first second apart =
 -- the places of a node's actions differ
 AreDistinct-places : (node a n : ℕ) → AreDistinct (branches_after (Some node) a n)
 AreDistinct-places node a zero = tt
-AreDistinct-places node a (suc n) = (λ among. let own_is = place_is _ node (suc a) n among in absurd (omega arith), AreDistinct-places node (suc a) n)
+AreDistinct-places node a (suc n) = (λ among. let own_is = place_is _ node (a + 1) n among in absurd (omega arith), AreDistinct-places node (a + 1) n)
 
 -- places at nodes before node k
 abbrev AreBefore : ℕ → List OpenBranch → Type 0

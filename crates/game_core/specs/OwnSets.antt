@@ -1,11 +1,11 @@
 -- The lists of the players' own sets that a tree keeps.
-use Rattle.std.specs.Prelude.{ℕ, ◌<◌, ◌≡◌, List, length, map, slice_get, slice_index_or, Some, None}
-use Rattle.game_theory.specs.OwnSets.{own_numbers}
+use Rattle.std.specs.Prelude.{ℕ, ◌<◌, ◌≡◌, List, length, slice_get, Some}
+use Rattle.game_theory.specs.OwnSets.{places_with}
 use Rattle.game_core.specs.Tree.{InformationSet}
 
 -- the numbers of the sets that player i owns, in order
 abbrev pub numbers_owned : List InformationSet → ℕ → List ℕ
-numbers_owned sets i = own_numbers (λ s. slice_index_or (map (λ set. set.owner) sets) s None) i (length sets)
+numbers_owned sets i = places_with (λ set. set.owner) sets i
 
 -- list i has the numbers of player i's own sets in order
 pub record AreOwnLists (sets : List InformationSet) (players : ℕ) (lists : List (List ℕ)) : Type 0 where

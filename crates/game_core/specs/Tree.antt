@@ -1,9 +1,10 @@
 -- What contracts see of a game tree, and what makes it one. Source: Gambit's description of its `.efg` format, version 2;
 -- Kuhn 1953.
-use Rattle.std.specs.Prelude.{ℕ, zero, suc, ◌<◌, ◌≤◌, ◌^◌, ◌≡◌, if◌then◌else◌, List, [], ◌∷◌, ◌++◌, length, map, slice_get, slice_index_or, All, IfSome, Option, Some, None}
+use Rattle.std.specs.Prelude.{ℕ, zero, suc, ◌<◌, ◌≤◌, ◌^◌, ◌≡◌, List, [], ◌∷◌, ◌++◌, length, map, slice_get, slice_index_or, All, IfSome, Option, Some, None}
+use Rattle.std.specs.List.{range_with_len}
 use Rattle.rational.specs.Rational.{ℚ, ◌≤ℚ◌, zero_ℚ, one_ℚ}
 use Rattle.rational.specs.Sum.{entry_at, sum_to}
-use Rattle.game_theory.specs.Behaviour.{is_index}
+use Rattle.game_theory.specs.OwnSets.{places_with}
 use Rattle.game_core.specs.declared.tree.Action.{Action}
 use Rattle.game_core.specs.declared.tree.Kind.{Kind}
 use Rattle.game_core.specs.declared.tree.Kind.TheVariants.{Chance, Move, End}
@@ -49,8 +50,7 @@ OpenBranch = Option ℕ × ℕ
 
 -- the branches of so many actions of a node from one on
 abbrev pub branches_after : Option ℕ → ℕ → ℕ → List OpenBranch
-branches_after parent action zero = []
-branches_after parent action (suc n) = (parent, action) ∷ branches_after parent (suc action) n
+branches_after parent action n = map (λ a. (parent, a)) (range_with_len action n)
 
 -- Nodes in prefix order, numbered from k on: each hangs at the first open branch, and the branches of its own actions come
 -- before the others. The rest stays open after the last node.
@@ -85,10 +85,9 @@ pub record NodeFits (t : GameTree) (node : Node) : Type 0 where
   pub set_within : IsBelow (length t.sets) node.set
   pub outcome_within : IsBelow (length t.outcomes) node.outcome
 
--- the numbers of the nodes that name set s, numbered from k on
-abbrev pub members_from : ℕ → ℕ → List Node → List ℕ
-members_from k s [] = []
-members_from k s (node ∷ nodes) = if is_index node.set s then k ∷ members_from (suc k) s nodes else members_from (suc k) s nodes
+-- the numbers of the nodes that name set s, in order
+abbrev pub members_of : List Node → ℕ → List ℕ
+members_of nodes s = places_with (λ node. node.set) nodes s
 
 -- the probability of action a in a list of actions
 abbrev pub probability_at : List Action → ℕ → ℚ
@@ -109,7 +108,7 @@ pub record SetFits (t : GameTree) (s : ℕ) (set : InformationSet) : Type 0 wher
   pub owner_within : IsBelow (length t.players) set.owner
   pub some_action : 0 < length set.actions
   pub probabilities : ProbabilitiesFit set.owner set.actions
-  pub members_are : set.members ≡ members_from 0 s t.nodes
+  pub members_are : set.members ≡ members_of t.nodes s
   pub some_member : 0 < length set.members
 
 -- Indices that nodes name in turn are numbered by first use: before a node that names one comes, for each smaller one, a node

@@ -2,6 +2,7 @@ pub mod ChildLemmas
 pub mod EntryGameExamples
 pub mod EntryLemmas
 pub mod Examples
+pub mod IndexLemmas
 pub mod LineOrderLemmas
 pub mod LineTextLemmas
 pub mod NamedChildLemmas

@@ -1,5 +1,5 @@
 -- Pure replies: a payoff is the mean of the payoffs of a player's replies.
-use Rattle.std.proofs.Common.{ℕ, zero, suc, ◌+◌, ◌*◌, ◌<◌, ◌≡◌, ◌≢◌, eqb, eqb→eq, cond, List, [], ◌∷◌, length, get_or, sym, ap, ◌∙◌, subst, subst₂, arith, tests}
+use Rattle.std.proofs.Common.{ℕ, zero, suc, ◌+◌, ◌*◌, ◌<◌, ◌≡◌, ◌≢◌, eqb, cond, List, [], ◌∷◌, length, get_or, sym, ap, ◌∙◌, subst, subst₂, arith, tests}
 use Rattle.rational.specs.Rational.{ℚ, ◌*ℚ◌, ◌≤ℚ◌, zero_ℚ}
 use Rattle.rational.specs.Sum.{sum_to}
 use Rattle.rational.proofs.SumLemmas.{sum_to-same}

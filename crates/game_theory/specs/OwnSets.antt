@@ -1,16 +1,20 @@
 -- A player's own sets, and the nodes at which the player chooses.
-use Rattle.std.specs.Prelude.{ℕ, ◌≡◌, List, map, filter, Option, Some}
+use Rattle.std.specs.Prelude.{ℕ, ◌≡◌, List, length, map, slice_index_or, filter, Option, Some, None}
 use Rattle.std.specs.List.{range_with_len}
 use Rattle.game_theory.specs.Trees.{Tree}
 use Rattle.game_theory.specs.Behaviour.{is_index}
 
--- the numbers below n that player i owns, in order
-abbrev pub own_numbers : (ℕ → Option ℕ) → ℕ → ℕ → List ℕ
-own_numbers owner i n = filter (λ s. is_index (owner s) i) (range_with_len 0 n)
+-- the numbers below n whose index is i, in order
+abbrev pub numbers_with : (ℕ → Option ℕ) → ℕ → ℕ → List ℕ
+numbers_with index i n = filter (λ k. is_index (index k) i) (range_with_len 0 n)
+
+-- the places of a list at which an element's index is i, in order
+abbrev pub places_with : {A : Type 0} → (A → Option ℕ) → List A → ℕ → List ℕ
+places_with index xs i = numbers_with (λ k. slice_index_or (map index xs) k None) i (length xs)
 
 -- player i's own sets, in order
 abbrev pub own_sets : Tree → ℕ → List ℕ
-own_sets t i = own_numbers t.owner i t.sets
+own_sets t i = numbers_with t.owner i t.sets
 
 -- how many actions each of player i's own sets has
 abbrev pub own_counts : Tree → ℕ → List ℕ

@@ -1,7 +1,8 @@
 -- The costs of cells, one after another.
-use Rattle.std.proofs.Common.{ℕ, suc, ◌<◌, ◌≡◌, ◌+◌, List, [], ◌∷◌, ◌++◌, All, Result, length, take, drop, get_or, refl, sym, ap, ◌∙◌, subst, append_assoc, add-one}
+use Rattle.std.proofs.Common.{ℕ, suc, ◌<◌, ◌≡◌, ◌+◌, List, [], ◌∷◌, ◌++◌, All, Result, length, take, drop, get_or, sym, ap, ◌∙◌, subst, append_assoc, add-one}
 use Rattle.std.specs.Prelude.{IfOk, IfErr, OnOk, OnErr}
 use Rattle.std.proofs.Math.Seq.{take-suc}
+use Rattle.std.proofs.lemmas.Grind.{flat_map-append}
 use Rattle.std.proofs.lemmas.List.Elements.{All-nil, All-cons, All-append}
 use Rattle.rational.specs.Rational.{ℚ, ◌-ℚ◌, ◌*ℚ◌}
 use Rattle.frac128.specs.Steps.{MulFits, SubFits, unfit, Step, IsFirstUnfit, StepsGive}
@@ -22,8 +23,7 @@ difference_gives most weight payoff part r is product value fits step refused =
 
 -- ---- both players' costs
 both_append : (xs ys : List Cell) → both_costs (xs ++ ys) ≡ both_costs xs ++ both_costs ys
-both_append [] ys = refl
-both_append (c ∷ xs) ys = ap (λ (rest : List PlayersCell). record { player = 0; cell = c } ∷ record { player = 1; cell = c } ∷ rest) (both_append xs ys)
+both_append = flat_map-append (λ (c : Cell). record { player = 0; cell = c } ∷ record { player = 1; cell = c } ∷ [])
 
 module _ (greatest_one greatest_two : ℚ) (cells : List Cell) (k : ℕ) (c : Cell) (l : k < length cells) (is : c ≡ get_or cells k c) where
   abbrev steps : PlayersCell → List Step

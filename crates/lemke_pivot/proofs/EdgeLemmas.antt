@@ -1,8 +1,9 @@
 -- The path of complementary pivots, over what it needs of tableaux: its bases and its edges
-use Rattle.std.proofs.Common.{ℕ, ◌≡◌, ◌≢◌, ◌⊎◌, inl, inr, Bool, true, false, not, cond, eqb, List, [], ◌∷◌, refl, sym, ap, ap₂, subst, ◌∙◌, true≢false, tests, arith}
+use Rattle.std.proofs.Common.{ℕ, suc, ◌≡◌, ◌≢◌, ◌⊎◌, inl, inr, Bool, true, false, not, cond, eqb, List, [], ◌∷◌, All, refl, sym, ap, ap₂, subst, ◌∙◌, true≢false, tests, arith}
 use Rattle.std.proofs.lemmas.Bool.{cases_eq}
 use Rattle.std.proofs.Math.Path.{fun_ext}
-use Rattle.lemke_pivot.specs.Walks.{Apart, Distinct}
+use Rattle.std.specs.Prelude.{AllPairs}
+use Rattle.std.proofs.lemmas.List.Elements.{All-tail}
 use Rattle.lemke_pivot.proofs.WalkLemmas.{FewNeighbours, Turns, Walk, walk_distinct}
 
 -- b after c has entered and l has left
@@ -237,14 +238,14 @@ module _ (P : Pivots) (B : Labels) where
         l_in = P.was_in t t' c l h
 
     -- no basis of the path occurs twice
-    pub no_basis_twice : (t : P.T) (c : ℕ) (earlier : List (ℕ → Bool)) → At t c earlier → Distinct (P.basic t ∷ earlier)
+    pub no_basis_twice : (t : P.T) (c : ℕ) (earlier : List (ℕ → Bool)) → At t c earlier → AllPairs (λ x y. x ≢ y) (P.basic t ∷ earlier)
     no_basis_twice t c earlier a = walk_distinct (Edge P B) (P.basic S.first) few_neighbours (P.basic t ∷ earlier) a.walk
 
-    not_start : (b a : ℕ → Bool) (earlier : List (ℕ → Bool)) → Walk (Edge P B) (P.basic S.first) (a ∷ earlier) → Apart b (a ∷ earlier) → b ≢ P.basic S.first
-    not_start b a [] w p e = p.0 (e ∙ sym w)
-    not_start b a (x ∷ xs) w p e = not_start b x xs w.2 p.1 e
+    not_start : (b a : ℕ → Bool) (earlier : List (ℕ → Bool)) → Walk (Edge P B) (P.basic S.first) (a ∷ earlier) → All (λ x. b ≢ x) (a ∷ earlier) → b ≢ P.basic S.first
+    not_start b a [] w p e = p 0 a (omega arith) (e ∙ sym w)
+    not_start b a (x ∷ xs) w p e = not_start b x xs w.2 (All-tail (λ y. b ≢ y) a (x ∷ xs) p) e
 
     -- the path is at its first basis only at its beginning
     pub at_first : (t : P.T) (c : ℕ) (earlier : List (ℕ → Bool)) → At t c earlier → ((v : ℕ) → P.basic t v ≡ P.basic S.first v) → c ≡ S.enters
     at_first t c [] a e = a.entering
-    at_first t c (b ∷ bs) a e = absurd (not_start (P.basic t) b bs a.walk.2 (walk_distinct (Edge P B) (P.basic S.first) few_neighbours (P.basic t ∷ (b ∷ bs)) a.walk).0 (fun_ext e))
+    at_first t c (b ∷ bs) a e = absurd (not_start (P.basic t) b bs a.walk.2 (λ k d h. walk_distinct (Edge P B) (P.basic S.first) few_neighbours (P.basic t ∷ (b ∷ bs)) a.walk 0 (suc k) d (omega arith) (omega arith)) (fun_ext e))

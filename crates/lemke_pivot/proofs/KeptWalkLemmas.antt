@@ -1,10 +1,10 @@
 -- what the walk keeps
-use Rattle.std.proofs.Common.{ℕ, zero, suc, ◌<◌, ◌≤◌, ◌≡◌, ◌≢◌, ◌+◌, ◌^◌, inr, List, [], ◌∷◌, length, map, get_or, Some, None, refl, sym, ap, ap₂, ◌∙◌, subst, arith, All}
+use Rattle.std.proofs.Common.{ℕ, suc, ◌<◌, ◌≤◌, ◌≡◌, ◌≢◌, ◌+◌, ◌^◌, inr, List, [], ◌∷◌, length, map, get_or, Some, None, refl, sym, ap, ap₂, ◌∙◌, subst, arith, All}
 use Rattle.std.proofs.lemmas.List.{length-map}
-use Rattle.rational.specs.Rational.{ℚ, ◌-ℚ◌, ◌*ℚ◌, inv_ℚ, zero_ℚ}
+use Rattle.rational.specs.Rational.{ℚ, zero_ℚ}
 use Rattle.rational.proofs.Field.{not_lt_of_le}
-use Rattle.linear_systems.specs.Rows.{basic_solution, key, Alike, IsLexicographicRow}
-use Rattle.linear_systems.proofs.LexLemmas.{lex_same}
+use Rattle.linear_systems.specs.Rows.{basic_solution, Alike, IsLexicographicRow}
+use Rattle.linear_systems.proofs.LexRowLemmas.{lex_row_by}
 use Rattle.frac128.specs.declared.steps.Unfit.{Unfit}
 use Rattle.lex_tableau.specs.Rows.{WholeTableau, tableau, IsNonbasicColumn, IsTableau, IsPivotOf}
 use Rattle.lex_tableau.specs.Ratio.{variable_at, IsLeavingRow, IsRatioRow}
@@ -85,21 +85,11 @@ module _ (n r : ℕ) (m : WholeTableau) (S : IsPathStart n r m) where
       walk_variable i h = basic_is_variable n S.matrix S.right r S.first (map tableau o.earlier) (tableau t) c i path ne (subst (λ k. i < k) (sym rows_are) h)
 
       -- the row that the tableau finds is the path's
-      walk_row : (col row : ℕ) → IsLeavingRow t col row → IsLexicographicRow n n w_of (tableau t) col row
-      walk_row col row L =
-          let K : IsLexicographicRow n n (variable_at t.starts) (tableau t) col row = subst (λ k. IsLexicographicRow k k (variable_at t.starts) (tableau t) col row) o.rated L in
-          record {
-            within = K.within;
-            positive = K.positive;
-            least = λ i h d p. record { by = lex_same (suc n) _ _ (λ q l. ap₂ (λ x y. (x *ℚ inv_ℚ ((tableau t).cell i col)) -ℚ (y *ℚ inv_ℚ ((tableau t).cell row col))) (same i q l) (same row q l)) (K.least i h d p).by };
-          }
-        where
-          same : (i q : ℕ) → q < suc n → key (variable_at t.starts) (tableau t) i q ≡ key w_of (tableau t) i q
-          same i zero h = refl
-          same i (suc q) h = ap (λ v. key (λ _. v) (tableau t) i 1) (ap (λ s. get_or s q 0) o.starts ∙ S.starts q (omega arith))
-
       pub walk_best : (t₁ : WholeTableau) (col row : ℕ) → t₁ ≡ t → IsLeavingRow t₁ col row → IsLexicographicRow n n w_of (tableau t) col row
-      walk_best t₁ col row e B = walk_row col row (subst (λ m. IsLeavingRow m col row) e B)
+      walk_best t₁ col row e B =
+          let L : IsLeavingRow t col row = subst (λ m. IsLeavingRow m col row) e B in
+          lex_row_by n n (variable_at t.starts) w_of (tableau t) col row (λ q h. ap (λ s. get_or s q 0) o.starts ∙ S.starts q h)
+          (subst (λ k. IsLexicographicRow k k (variable_at t.starts) (tableau t) col row) o.rated L)
 
       pub walk_never : (t₁ : WholeTableau) (col : ℕ) → t₁ ≡ t → IsNonbasicColumn t c (Some col) → IsRatioRow t₁ col None → ⊥
       walk_never t₁ col e h none =

@@ -2,7 +2,7 @@
 use Rattle.std.proofs.Common.{◌≡◌, ◌∙◌, ◌<◌, sym}
 use Rattle.answers.specs.Answers.{◌>>◌, IsSingle, only, refused_by}
 use Rattle.answers.proofs.AnswerLemmas.{bind-single, only-single, refuse_where-single, refused_by-single}
-use Rattle.linear_systems.proofs.AgreementLemmas.{alike_sym, alike_trans}
+use Rattle.linear_systems.proofs.AgreementLemmas.{alike_both}
 use Rattle.lex_tableau.specs.Starts.{LinearSystem, system_of}
 use Rattle.lex_tableau.specs.StartStops.{start_of as start_of_system}
 use Rattle.lex_tableau.proofs.SystemLemmas.{systems_determined, start_of-single}
@@ -20,7 +20,7 @@ module _ (f : FormData) where
   one_system : (s t : LinearSystem) → IsSystemOf f s → IsSystemOf f t → s ≡ t
   one_system s t h g =
       let begin = start_of (side_of f.first) (side_of f.second) (costs (form f) 0 f.greatest_one) (costs (form f) 1 f.greatest_two) in
-      systems_determined s t h.valid g.valid (alike_trans (system_of s) begin (system_of t) (alike_sym begin (system_of s) h.begins) g.begins) (h.rated ∙ sym g.rated)
+      systems_determined s t h.valid g.valid (alike_both begin (system_of s) (system_of t) h.begins g.begins) (h.rated ∙ sym g.rated)
 
   form_start_in-single : IsSingle (form_start_in f)
   form_start_in-single =

@@ -1,18 +1,20 @@
 -- the laws of the path
-use Rattle.std.proofs.Common.{add-one, ℕ, zero, suc, pos, ◌≡◌, ◌≢◌, ◌<◌, ◌≤◌, ◌+◌, ◌^◌, ◌⊎◌, inl, inr, Bool, true, false, List, [], ◌∷◌, length, map, refl, sym, ap, ◌∙◌, subst, arith, true≢false}
+use Rattle.std.proofs.Common.{add-one, ℕ, zero, suc, pos, ◌≡◌, ◌≢◌, ◌<◌, ◌≤◌, ◌+◌, ◌^◌, ◌⊎◌, inl, inr, Bool, true, false, List, [], ◌∷◌, All, length, map, refl, sym, ap, ◌∙◌, subst, arith, true≢false}
 use Rattle.std.proofs.lemmas.Bool.{cases_eq}
 use Rattle.std.proofs.lemmas.Int.{ints}
 use Rattle.std.proofs.lemmas.List.{length-map}
+use Rattle.std.proofs.lemmas.List.Elements.{All-nil, All-cons}
+use Rattle.std.proofs.lemmas.List.Kept.{AllPairs-cons}
+use Rattle.std.specs.Prelude.{AllPairs}
 use Rattle.rational.specs.Rational.{ℚ, neg_ℚ, zero_ℚ, ◌≤ℚ◌, ◌<ℚ◌}
 use Rattle.rational.proofs.Field.{le_refl, le_trans, le_or_lt, le_of_lt, eq_or_lt_of_le}
 use Rattle.rational.proofs.Linear.{linear, minus, at, lit, ◌⟨≤⟩◌, ◌⟨<⟩◌, ◌⟨=⟩◌}
 use Rattle.linear_systems.specs.Tableau.{Tableau, pivot}
 use Rattle.linear_systems.specs.Rows.{basic_solution, Alike, IsLexicographicRow}
-use Rattle.linear_systems.proofs.AgreementLemmas.{alike_sym, alike_trans, alike_pivot, alike_lex_row}
+use Rattle.linear_systems.proofs.AgreementLemmas.{alike_sym, alike_trans, alike_both, alike_pivot, alike_lex_row}
 use Rattle.linear_systems.proofs.LexRowLemmas.{lex_row_once, lex_row_is}
 use Rattle.lemke_pivot.specs.Vectors.{zeros}
 use Rattle.lemke_pivot.specs.Problems.{costs_of, size, matrix, right_sides, IsCopositive}
-use Rattle.lemke_pivot.specs.Walks.{Apart, Distinct}
 use Rattle.lemke_pivot.proofs.EdgeLemmas.{swap, At, at_begin, at_next, no_basis_twice, swap_out}
 use Rattle.lemke_pivot.specs.Values.{is_basic}
 use Rattle.lemke_pivot.specs.ProblemPaths.{w_of, z_of, z0_of, complement, SolvesAt, IsRayAt, start, IsFirstRow, IsLeastRow, Replaces, PathTo}
@@ -20,7 +22,7 @@ use Rattle.lemke_pivot.proofs.KeyLemmas.{HasPositiveKeys, is_start, row_in, pivo
 use Rattle.lemke_pivot.specs.ProblemLaws.{NoBasisOccursTwice, PathsAreShort, PathsAreUnique, PathsEndSolved, PathsEndInRays, FirstRowsExist, AlwaysALeavingRow, LeastIsNegative}
 use Rattle.lemke_pivot.proofs.ProblemBlockLemmas.{six_p}
 use Rattle.lemke_pivot.proofs.CopositiveLemmas.{sides_copositive}
-use Rattle.lemke_pivot.proofs.SetCountLemmas.{AllBelow, sets-bound}
+use Rattle.lemke_pivot.proofs.SetCountLemmas.{Below, sets-bound}
 use Rattle.lemke_pivot.proofs.ValueLemmas.{value_out, basic_yes}
 use Rattle.lemke_pivot.proofs.ComplementLemmas.{Which, which, complement_neither, labels}
 use Rattle.lemke_pivot.proofs.AlikeTableauLemmas.{into_width, alike_basic}
@@ -66,25 +68,27 @@ module _ (n : ℕ) (M : ℕ → ℕ → ℚ) (b : ℕ → ℚ) (r : ℕ) (fr : I
   keys (s ∷ ss) t c p = next_keys n M b s t p.0 p.1 ((on_path ss s p.0 (goes_on ss s p.0 p.2 p.3)).1, p.4)
 
   -- a set without z0 is none of the bases before
-  apart_all : (f : ℕ → Bool) → f (z0_of n) ≡ false → (ss : List Tableau) (s : Tableau) (d : ℕ) → GoesOn n M b r ss s d → Apart f (map is_basic (s ∷ ss))
-  apart_all f z0_out [] s d g = ((λ e. true≢false (sym (on_path [] s d g).0.almost.has_z0 ∙ ap (λ (h : ℕ → Bool). h (z0_of n)) (sym e) ∙ z0_out)), tt)
-  apart_all f z0_out (u ∷ us) s d g = ((λ e. true≢false (sym (on_path (u ∷ us) s d g).0.almost.has_z0 ∙ ap (λ (h : ℕ → Bool). h (z0_of n)) (sym e) ∙ z0_out)), apart_all f z0_out us u g.0 g.2)
+  apart_all : (f : ℕ → Bool) → f (z0_of n) ≡ false → (ss : List Tableau) (s : Tableau) (d : ℕ) → GoesOn n M b r ss s d → All (λ h. f ≢ h) (map is_basic (s ∷ ss))
+  apart_all f z0_out [] s d g =
+      All-cons (λ h. f ≢ h) (is_basic s) [] (λ e. true≢false (sym (on_path [] s d g).0.almost.has_z0 ∙ ap (λ (h : ℕ → Bool). h (z0_of n)) (sym e) ∙ z0_out)) (All-nil (λ h. f ≢ h))
+  apart_all f z0_out (u ∷ us) s d g =
+      All-cons (λ h. f ≢ h) (is_basic s) (map is_basic (u ∷ us)) (λ e. true≢false (sym (on_path (u ∷ us) s d g).0.almost.has_z0 ∙ ap (λ (h : ℕ → Bool). h (z0_of n)) (sym e) ∙ z0_out)) (apart_all f z0_out us u g.0 g.2)
 
-  distinct : (ss : List Tableau) (t : Tableau) (c : ℕ) → GoesOn n M b r ss t c → Distinct (map is_basic (t ∷ ss))
+  distinct : (ss : List Tableau) (t : Tableau) (c : ℕ) → GoesOn n M b r ss t c → AllPairs (λ x y. x ≢ y) (map is_basic (t ∷ ss))
   distinct ss t c g = no_basis_twice (pivots n M b) (labels n) (beginning n M b r fr) t c (map is_basic ss) (on_path ss t c g).0
 
-  pub all_distinct : (ss : List Tableau) (t : Tableau) (c : ℕ) → PathTo n M b r ss t c → Distinct (map is_basic (t ∷ ss))
+  pub all_distinct : (ss : List Tableau) (t : Tableau) (c : ℕ) → PathTo n M b r ss t c → AllPairs (λ x y. x ≢ y) (map is_basic (t ∷ ss))
   unfolding Ending
   all_distinct ss t c p = go (ending ss t c p)
     where
-      go : Ending ss t c → Distinct (map is_basic (t ∷ ss))
+      go : Ending ss t c → AllPairs (λ x y. x ≢ y) (map is_basic (t ∷ ss))
       go (inl g) = distinct ss t c g
       go (inr w) = let o = on_path w.1 w.0 w.2 w.4 in
-          subst (λ l. Distinct (map is_basic (t ∷ l))) (sym w.3) (apart_all (is_basic t) (left_out w.0 t w.2 (z0_of n) o.1 o.0.almost.has_z0 o.0.almost.out w.5 refl) w.1 w.0 w.2 w.4, distinct w.1 w.0 w.2 w.4)
+          subst (λ l. AllPairs (λ x y. x ≢ y) (map is_basic (t ∷ l))) (sym w.3) (AllPairs-cons (λ x y. x ≢ y) (is_basic t) (map is_basic (w.0 ∷ w.1)) (apart_all (is_basic t) (left_out w.0 t w.2 (z0_of n) o.1 o.0.almost.has_z0 o.0.almost.out w.5 refl) w.1 w.0 w.2 w.4) (distinct w.1 w.0 w.2 w.4))
 
-  all_below : (ss : List Tableau) (t : Tableau) (c : ℕ) → PathTo n M b r ss t c → AllBelow (suc (suc (n + n))) (map is_basic (t ∷ ss))
-  all_below [] t c p = ((λ v h. basic_past n M b t (keys [] t c p).reached v h), tt)
-  all_below (s ∷ ss) t c p = ((λ v h. basic_past n M b t (keys (s ∷ ss) t c p).reached v h), all_below ss s p.0 p.2)
+  all_below : (ss : List Tableau) (t : Tableau) (c : ℕ) → PathTo n M b r ss t c → All (Below (suc (suc (n + n)))) (map is_basic (t ∷ ss))
+  all_below [] t c p = All-cons (Below (suc (suc (n + n)))) (is_basic t) [] (basic_past n M b t (keys [] t c p).reached) (All-nil (Below (suc (suc (n + n)))))
+  all_below (s ∷ ss) t c p = All-cons (Below (suc (suc (n + n)))) (is_basic t) (map is_basic (s ∷ ss)) (basic_past n M b t (keys (s ∷ ss) t c p).reached) (all_below ss s p.0 p.2)
 
   pub short : (ss : List Tableau) (t : Tableau) (c : ℕ) → PathTo n M b r ss t c → suc (length ss) ≤ 2 ^ suc (suc (n + n))
   short ss t c p = subst (λ m. suc m ≤ 2 ^ suc (suc (n + n))) (length-map ss is_basic) (sets-bound (suc (suc (n + n))) (map is_basic (t ∷ ss)) (all_below ss t c p) (all_distinct ss t c p))
@@ -158,13 +162,13 @@ least_is_negative rows columns one two r least = let s = costs_of rows columns o
     linear (right_sides s r ∷ right_sides s i ∷ []) ((at 0 ⟨≤⟩ at 1) ∷ (at 1 ⟨=⟩ minus (lit (pos 1))) ∷ []) (at 0 ⟨<⟩ lit (pos 0)) (λ one z p h. omega (arith, ints)) (least i (omega arith), (six_p s zeros zeros (λ r. neg_ℚ (s.e r)) s.e (λ r. neg_ℚ (s.f r)) s.f 0 (omega arith), tt))
 
 pub paths_are_unique : PathsAreUnique
-paths_are_unique n M b r [] [] t t' c c' fr p q e = (alike_trans t (pivot (start n M b) r n) t' (alike_sym (pivot (start n M b) r n) t p.0) q.0, p.1 ∙ sym q.1)
+paths_are_unique n M b r [] [] t t' c c' fr p q e = (alike_both (pivot (start n M b) r n) t t' p.0 q.0, p.1 ∙ sym q.1)
 paths_are_unique n M b r [] (s ∷ ss) t t' c c' fr p q e = absurd (omega arith)
 paths_are_unique n M b r (s ∷ ss) [] t t' c c' fr p q e = absurd (omega arith)
 paths_are_unique n M b r (s ∷ ss) (s' ∷ ss') t t' c c' fr p q e = step (paths_are_unique n M b r ss ss' s s' p.0 q.0 fr p.2 q.2 (omega arith)) (keys n M b r fr ss s p.0 p.2) (keys n M b r fr ss' s' q.0 q.2)
   where
     step : Alike s s' × (p.0 ≡ q.0) → HasPositiveKeys n M b s → HasPositiveKeys n M b s' → Alike t t' × (c ≡ c')
-    step w R R' = (alike_trans t (pivot s p.4.row p.4.col) t' (alike_sym (pivot s p.4.row p.4.col) t p.4.to) (alike_trans (pivot s p.4.row p.4.col) (pivot s' p.4.row p.4.col) t' (alike_pivot s s' p.4.row p.4.col row_is p.4.col_in w.0) (subst (λ k. Alike (pivot s' k p.4.col) t') (sym row) (subst (λ j. Alike (pivot s' q.4.row j) t') (sym col) q.4.to))), p.5 ∙ ap (complement n) leaves ∙ sym q.5)
+    step w R R' = (alike_both (pivot s p.4.row p.4.col) t t' p.4.to (alike_trans (pivot s p.4.row p.4.col) (pivot s' p.4.row p.4.col) t' (alike_pivot s s' p.4.row p.4.col row_is p.4.col_in w.0) (subst (λ k. Alike (pivot s' k p.4.col) t') (sym row) (subst (λ j. Alike (pivot s' q.4.row j) t') (sym col) q.4.to))), p.5 ∙ ap (complement n) leaves ∙ sym q.5)
       where
         from : Alike s' s
         from = alike_sym s s' w.0

@@ -1,13 +1,13 @@
 -- there are no more than 2 ^ m different sets of variables below m
-use Rattle.std.proofs.Common.{ℕ, zero, suc, ◌+◌, ◌*◌, ◌^◌, ◌<◌, ◌≤◌, ◌≡◌, ◌≢◌, ◌⊎◌, inl, inr, ◌||◌, Bool, true, false, cond, eqb, List, [], ◌∷◌, length, map, refl, sym, subst, ◌∙◌, true≢false, arith}
-use Rattle.std.specs.List.{IsDistinct, AllByRecursion, list_any}
+use Rattle.std.proofs.Common.{ℕ, zero, suc, ◌+◌, ◌*◌, ◌^◌, ◌<◌, ◌≤◌, ◌≡◌, ◌≢◌, ◌⊎◌, inl, inr, ◌||◌, Bool, true, false, cond, eqb, List, [], ◌∷◌, All, length, map, get_or, refl, sym, subst, ◌∙◌, true≢false, arith}
+use Rattle.std.specs.List.{AllPairs, IsDistinct, list_any}
+use Rattle.std.proofs.lemmas.Map.Made.{IsDistinct-from_AllPairs}
 use Rattle.std.proofs.lemmas.Map.Steps.{length-le_from_distinct_below}
-use Rattle.std.proofs.lemmas.List.{length-map}
+use Rattle.std.proofs.lemmas.List.{length-map, get_or-map}
 use Rattle.std.proofs.Math.Path.{fun_ext}
-use Rattle.std.proofs.lemmas.Bool.Decides.{eqb_tells}
+use Rattle.std.proofs.lemmas.Bool.Decides.{eqb_tells, Decides-eqb}
 use Rattle.std.proofs.lemmas.Bool.{cases_lt}
 use Rattle.std.proofs.Math.Nat.{pow-succ'}
-use Rattle.lemke_pivot.specs.Walks.{Apart, Distinct}
 
 bit : Bool → ℕ
 bit b = cond b 1 0
@@ -39,25 +39,23 @@ code-same (suc m) f g e (suc i) h = code-same m (λ i. f (suc i)) (λ i. g (suc 
 abbrev pub Below : ℕ → (ℕ → Bool) → Type 0
 Below m f = (i : ℕ) → m ≤ i → f i ≡ false
 
-abbrev pub AllBelow : ℕ → List (ℕ → Bool) → Type 0
-AllBelow m [] = Unit {0}
-AllBelow m (f ∷ fs) = Below m f × AllBelow m fs
-
-other_code : (m : ℕ) (f g : ℕ → Bool) → Below m f → Below m g → f ≢ g → eqb (code m f) (code m g) ≡ false
-other_code m f g hf hg n = elim (eqb_tells (code m f) (code m g)) [ inl t ↦ absurd (n (fun_ext (λ i. all t.1 i (cases_lt i m)))) | inr t ↦ t.0 ]
+same_set : (m : ℕ) (f g : ℕ → Bool) → Below m f → Below m g → code m f ≡ code m g → f ≡ g
+same_set m f g hf hg e = fun_ext (λ i. at i (cases_lt i m))
   where
-    all : code m f ≡ code m g → (i : ℕ) → (i < m) ⊎ (m ≤ i) → f i ≡ g i
-    all e i (inl h) = code-same m f g e i h
-    all e i (inr h) = hf i h ∙ sym (hg i h)
+    at : (i : ℕ) → (i < m) ⊎ (m ≤ i) → f i ≡ g i
+    at i (inl h) = code-same m f g e i h
+    at i (inr h) = hf i h ∙ sym (hg i h)
 
-apart_codes : (m : ℕ) (f : ℕ → Bool) (fs : List (ℕ → Bool)) → Below m f → AllBelow m fs → Apart f fs → AllByRecursion (λ y. eqb (code m f) y ≡ false) (map (code m) fs)
-apart_codes m f [] hf h a = tt
-apart_codes m f (g ∷ gs) hf h a = (other_code m f g hf h.0 a.0, apart_codes m f gs hf h.1 a.1)
+distinct_codes : (m : ℕ) (fs : List (ℕ → Bool)) → All (Below m) fs → AllPairs (λ f g. f ≢ g) fs → IsDistinct eqb (map (code m) fs)
+distinct_codes m fs h d = IsDistinct-from_AllPairs Decides-eqb (map (code m) fs) apart
+  where
+    none : ℕ → Bool
+    none i = false
 
-distinct_codes : (m : ℕ) (fs : List (ℕ → Bool)) → AllBelow m fs → Distinct fs → IsDistinct eqb (map (code m) fs)
-unfolding IsDistinct
-distinct_codes m [] h d = tt
-distinct_codes m (f ∷ fs) h d = (apart_codes m f fs h.0 h.1 d.0, distinct_codes m fs h.1 d.1)
+    apart : AllPairs (λ x y. x ≢ y) (map (code m) fs)
+    apart i j x l w e =
+        let k : j < length fs = subst (λ n. j < n) (length-map fs (code m)) w in
+        d i j none l k (same_set m (get_or fs i none) (get_or fs j none) (h i none (omega arith)) (h j none k) (sym (get_or-map (code m) fs i none x (omega arith)) ∙ e ∙ get_or-map (code m) fs j none x k))
 
 small_codes : (m : ℕ) (fs : List (ℕ → Bool)) (q : ℕ) → list_any (eqb q) (map (code m) fs) ≡ true → q < 2 ^ m
 small_codes m [] q e = absurd (true≢false (sym e))
@@ -68,6 +66,6 @@ small_codes m (f ∷ fs) q e = go (eqb_tells q (code m f)) (small_codes m fs q)
     go (inr t) ih = ih (subst (λ b. (b || list_any (eqb q) (map (code m) fs)) ≡ true) t.0 e)
 
 -- different sets of numbers below m
-pub sets-bound : (m : ℕ) (fs : List (ℕ → Bool)) → AllBelow m fs → Distinct fs → length fs ≤ 2 ^ m
+pub sets-bound : (m : ℕ) (fs : List (ℕ → Bool)) → All (Below m) fs → AllPairs (λ f g. f ≢ g) fs → length fs ≤ 2 ^ m
 sets-bound m fs h d =
     subst (λ n. n ≤ 2 ^ m) (length-map fs (code m)) (length-le_from_distinct_below (map (code m) fs) (2 ^ m) (distinct_codes m fs h d) (small_codes m fs))

@@ -1,5 +1,10 @@
 -- the basic solution and the directions that a tableau shows, and what is basic
-use Rattle.std.proofs.Common.{ℕ, zero, suc, ◌<◌, ◌≡◌, ◌≢◌, inl, inr, eqb, ◌||◌, Bool, true, false, cond, [], ◌∷◌, refl, sym, ap, ap₂, ◌∙◌, arith, tests, true≢false, eq-or-lt_of_le, le_of_suc-le-suc}
+use Rattle.std.proofs.Common.{ℕ, ◌<◌, ◌≡◌, ◌≢◌, inl, inr, eqb, Bool, true, false, List, [], ◌∷◌, length, get_or, refl, sym, ap, ap₂, ◌∙◌, subst, arith, tests, true≢false, zero-add}
+use Rattle.std.specs.List.{position_or_len, range_with_len}
+use Rattle.std.proofs.lemmas.Bool.{cases_lt}
+use Rattle.std.proofs.lemmas.List.Folds.{Any-from_list_any, list_any_at, list_any_none}
+use Rattle.std.proofs.lemmas.List.FromFn.{length-range_with_len, get_or-range_with_len}
+use Rattle.std.proofs.lemmas.List.Sums.{fails_before_first, passes_at_first}
 use Rattle.rational.specs.Rational.{ℚ, ◌+ℚ◌, ◌*ℚ◌, neg_ℚ, zero_ℚ, one_ℚ}
 use Rattle.rational.specs.Sum.{sum_to}
 use Rattle.rational.proofs.RationalRing.{rational_ring}
@@ -10,57 +15,47 @@ use Rattle.linear_systems.specs.Rows.{basic_solution, unit_at, HasDistinctVariab
 use Rattle.linear_systems.proofs.PivotLemmas.{eqb_apart}
 use Rattle.linear_systems.proofs.RowLemmas.{unit_self, unit_other, sum_single}
 use Rattle.linear_systems.proofs.SolutionLemmas.{basic_sum, sum_elsewhere, solution_elsewhere}
-use Rattle.lemke_pivot.specs.Values.{direction, any_to, is_basic}
+use Rattle.lemke_pivot.specs.Values.{direction, is_basic}
 
 -- ---- what is basic
-any_yes : (n i : ℕ) (f : ℕ → Bool) → i < n → f i ≡ true → any_to n f ≡ true
-any_yes zero i f h e = absurd (omega arith)
-any_yes (suc n) i f h e = elim (eq-or-lt_of_le (le_of_suc-le-suc h)) [ inl q ↦ ap (λ b. b || any_to n f) (ap f (sym q) ∙ e) | inr l ↦ ap (λ b. f n || b) (any_yes n i f l e) ∙ or_true (f n) ]
-  where
-    or_true : (b : Bool) → (b || true) ≡ true
-    or_true true = refl
-    or_true false = refl
-
-any_no : (n : ℕ) (f : ℕ → Bool) → ((i : ℕ) → i < n → f i ≡ false) → any_to n f ≡ false
-any_no zero f h = refl
-any_no (suc n) f h = ap₂ (λ a b. a || b) (h n (omega arith)) (any_no n f (λ i k. h i (omega arith)))
-
--- the last place below n where f is true, if any
-pub place_to : ℕ → (ℕ → Bool) → ℕ
-place_to zero f = 0
-place_to (suc n) f = cond (f n) n (place_to n f)
-
-any_which : (n : ℕ) (f : ℕ → Bool) → any_to n f ≡ true → (place_to n f < n) × (f (place_to n f) ≡ true)
-unfolding place_to
-any_which zero f e = absurd (true≢false (sym e))
-any_which (suc n) f e = go (f n) refl (any_which n f)
-  where
-    go : (b : Bool) → f n ≡ b → (any_to n f ≡ true → (place_to n f < n) × (f (place_to n f) ≡ true)) → (cond (f n) n (place_to n f) < suc n) × (f (cond (f n) n (place_to n f)) ≡ true)
-    go true q ih = let p : cond (f n) n (place_to n f) ≡ n = ap (λ b. cond b n (place_to n f)) q in (omega (arith, p), ap f p ∙ q)
-    go false q ih =
-        let p : cond (f n) n (place_to n f) ≡ place_to n f = ap (λ b. cond b n (place_to n f)) q in
-        let r = ih (ap (λ b. b || any_to n f) (sym q) ∙ e) in
-        let l = r.0 in (omega (arith, p, l), ap f p ∙ r.1)
-
 eqb_yes : (v : ℕ) → eqb v v ≡ true
 eqb_yes v = grind (arith, tests)
 
 eqb_out : (u v : ℕ) → eqb u v ≡ true → u ≡ v
 eqb_out u v h = grind (arith, tests)
 
+row_at : (t : Tableau) (i : ℕ) → i < t.rows → get_or (range_with_len 0 t.rows) i 0 ≡ i
+row_at t i h = get_or-range_with_len 0 t.rows i 0 h ∙ zero-add i
+
 -- the row of a basic variable
 pub row_of : Tableau → ℕ → ℕ
-row_of t v = place_to t.rows (λ i. eqb (t.basic i) v)
+row_of t v = position_or_len (λ i. eqb (t.basic i) v) (range_with_len 0 t.rows)
 
 pub basic_yes : (t : Tableau) (i : ℕ) → i < t.rows → is_basic t (t.basic i) ≡ true
-basic_yes t i h = any_yes t.rows i (λ k. eqb (t.basic k) (t.basic i)) h (eqb_yes (t.basic i))
+basic_yes t i h =
+    list_any_at (λ k. eqb (t.basic k) (t.basic i)) (range_with_len 0 t.rows) i 0 (omega (arith, length-range_with_len 0 t.rows)) (ap (λ k. eqb (t.basic k) (t.basic i)) (row_at t i h) ∙ eqb_yes (t.basic i))
 
 pub basic_no : (t : Tableau) (v : ℕ) → ((i : ℕ) → i < t.rows → t.basic i ≢ v) → is_basic t v ≡ false
-basic_no t v h = any_no t.rows (λ k. eqb (t.basic k) v) (λ i k. eqb_apart (t.basic i) v (h i k))
+basic_no t v h =
+    list_any_none (λ i. eqb (t.basic i) v) (range_with_len 0 t.rows)
+    (λ i d l. let k : i < t.rows = omega (arith, length-range_with_len 0 t.rows) in ap (λ j. eqb (t.basic j) v) (get_or-range_with_len 0 t.rows i d k ∙ zero-add i) ∙ eqb_apart (t.basic i) v (h i k))
 
 pub basic_which : (t : Tableau) (v : ℕ) → is_basic t v ≡ true → (row_of t v < t.rows) × (t.basic (row_of t v) ≡ v)
 unfolding row_of
-basic_which t v e = let r = any_which t.rows (λ k. eqb (t.basic k) v) e in (r.0, eqb_out (t.basic (place_to t.rows (λ i. eqb (t.basic i) v))) v r.1)
+basic_which t v e = (within, eqb_out (t.basic (row_of t v)) v (ap test (sym (row_at t (row_of t v) within)) ∙ passes_at_first test rows 0 found))
+  where
+    test : ℕ → Bool
+    test i = eqb (t.basic i) v
+
+    rows : List ℕ
+    rows = range_with_len 0 t.rows
+
+    found : row_of t v < length rows
+    found = let w = Any-from_list_any test rows e in
+        elim (cases_lt w.0 (row_of t v)) [ inl l ↦ absurd (true≢false (sym w.4 ∙ ap test (sym w.3) ∙ fails_before_first test rows w.0 w.1 l)) | inr l ↦ let k = w.2 in omega arith ]
+
+    within : row_of t v < t.rows
+    within = subst (λ n. row_of t v < n) (length-range_with_len 0 t.rows) found
 
 -- ---- rows as linear forms
 pub left_add : (t : Tableau) (x y : ℕ → ℚ) (i : ℕ) → left t (λ v. x v +ℚ y v) i ≡ left t x i +ℚ left t y i

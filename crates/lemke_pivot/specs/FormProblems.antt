@@ -1,5 +1,6 @@
 -- The problem of a sequence form in stages, and why there is none.
 use Rattle.std.specs.Prelude.{ℕ, List, [], ◌∷◌, Ok}
+use Rattle.std.specs.List.{flat_map}
 use Rattle.answers.specs.Answers.{Answer, ◌>>=◌, ◌>>◌, only, IsSingle, refused_by}
 use Rattle.rational.specs.Rational.{ℚ, ◌-ℚ◌, ◌*ℚ◌}
 use Rattle.frac128.specs.Steps.{unfit, Step}
@@ -47,9 +48,9 @@ pub record PlayersCell : Type 0 where
 
 -- cell by cell, player 0's cost and then player 1's
 abbrev pub both_costs : List Cell → List PlayersCell
-both_costs [] = []
-both_costs (c ∷ cells) =
-    record { player = 0; cell = c } ∷ record { player = 1; cell = c } ∷ both_costs cells
+both_costs cells =
+    flat_map (λ (c : Cell). record { player = 0; cell = c } ∷ record { player = 1; cell = c } ∷ [])
+    cells
 
 abbrev pub steps_at : ℚ → ℚ → PlayersCell → List Step
 steps_at greatest_one greatest_two c =

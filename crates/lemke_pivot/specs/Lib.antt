@@ -9,4 +9,3 @@ pub mod SolutionLaws
 pub mod Systems
 pub mod Values
 pub mod Vectors
-pub mod Walks

@@ -1,5 +1,5 @@
 -- The laws of the path, as statements. Each is proved by a function of src/lib.rt.
-use Rattle.std.specs.Prelude.{ℕ, suc, ◌<◌, ◌≤◌, ◌≡◌, ◌≢◌, ◌^◌, ◌+◌, List, ◌∷◌, length, map}
+use Rattle.std.specs.Prelude.{ℕ, suc, ◌<◌, ◌≤◌, ◌≡◌, ◌≢◌, ◌^◌, ◌+◌, List, ◌∷◌, length, map, AllPairs}
 use Rattle.rational.specs.Rational.{ℚ, ◌+ℚ◌, zero_ℚ, ◌≤ℚ◌, ◌<ℚ◌}
 use Rattle.linear_systems.specs.Tableau.{Tableau}
 use Rattle.linear_systems.specs.Rows.{basic_solution, IsLexicographicRow, Alike}
@@ -9,7 +9,6 @@ use Rattle.sequence_forms.specs.Prices.{costs}
 use Rattle.sequence_forms.specs.Matrices.{SolvesProblem}
 use Rattle.sequence_forms.specs.PriceLaws.{HasFlow}
 use Rattle.lemke_pivot.specs.Values.{is_basic}
-use Rattle.lemke_pivot.specs.Walks.{Distinct}
 use Rattle.lemke_pivot.specs.Problems.{Costs, costs_of, size, matrix, right_sides, at_y, at_p, at_p', at_q, at_q', IsSolution, IsRay}
 use Rattle.lemke_pivot.specs.ProblemPaths.{PathTo, IsFirstRow, SolvesAt, IsRayAt, w_of, z0_of}
 
@@ -17,7 +16,7 @@ use Rattle.lemke_pivot.specs.ProblemPaths.{PathTo, IsFirstRow, SolvesAt, IsRayAt
 abbrev pub NoBasisOccursTwice : Type 0
 NoBasisOccursTwice =
     (n : ℕ) (M : ℕ → ℕ → ℚ) (b : ℕ → ℚ) (r : ℕ) (ss : List Tableau) (t : Tableau) (c : ℕ)
-    → IsFirstRow n b r → PathTo n M b r ss t c → Distinct (map is_basic (t ∷ ss))
+    → IsFirstRow n b r → PathTo n M b r ss t c → AllPairs (λ x y. x ≢ y) (map is_basic (t ∷ ss))
 
 abbrev pub PathsAreShort : Type 0
 PathsAreShort =

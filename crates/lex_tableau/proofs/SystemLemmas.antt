@@ -8,12 +8,13 @@ use Rattle.answers.specs.Answers.{such_that, IsSingle}
 use Rattle.answers.proofs.AnswerLemmas.{bind-single, refused_by-single, such_that-single}
 use Rattle.rational.specs.Rational.{zero_ℚ}
 use Rattle.linear_systems.specs.Rows.{Alike}
+use Rattle.linear_systems.proofs.AgreementLemmas.{alike_both}
 use Rattle.lex_tableau.specs.Rows.{WholeTableau, tableau, IsTableau}
 use Rattle.lex_tableau.specs.Starts.{LinearSystem, system_of, IsSystem, IsStartOf, cells_from, start_steps, start_rows_fit}
 use Rattle.lex_tableau.specs.StartStops.{rows_in, start_in, start_of, IsStarted}
 use Rattle.lex_tableau.specs.declared.tableau.StartStop.TheVariants.{Unfit}
 use Rattle.frac128.proofs.FirstUnfitLemmas.{all_fit-single}
-use Rattle.lex_tableau.proofs.TableauLemmas.{alike_both, determined}
+use Rattle.lex_tableau.proofs.TableauLemmas.{determined}
 
 parts_same : (a b : LinearSystem) → a.basics ≡ b.basics → a.nonbasics ≡ b.nonbasics → a.cells ≡ b.cells → a.rated ≡ b.rated → a ≡ b
 parts_same a b p q r s = λ i. record { basics = p i; nonbasics = q i; cells = r i; rated = s i }

@@ -3,25 +3,13 @@ use Rattle.std.proofs.Common.{ℕ, ℤ, pos, suc, zero, ◌≡◌, ◌<◌, ◌+
 use Rattle.std.proofs.lemmas.Grind.{same_number_lists}
 use Rattle.std.proofs.lemmas.List.{same_lists, get_or_default}
 use native.Mathlib.Nat.{div-lt_iff_lt-mul, mod-lt}
-use Rattle.linear_systems.specs.Tableau.{Tableau, pivot}
+use Rattle.linear_systems.specs.Tableau.{pivot}
 use Rattle.linear_systems.specs.Rows.{basic_solution, Alike}
+use Rattle.linear_systems.proofs.AgreementLemmas.{alike_both}
 use Rattle.linear_systems.proofs.SolutionLemmas.{solution_basic}
 use Rattle.whole_rows.specs.Rows.{from_place, fraction, IsRow}
 use Rattle.lex_tableau.specs.Rows.{WholeTableau, tableau, IsTableau, IsPivotOf}
 use Rattle.whole_rows.proofs.DeterminedRowLemmas.{rows_determined}
-
-pub alike_both : (t a b : Tableau) → Alike t a → Alike t b → Alike a b
-alike_both t a b p q =
-    let pr : t.rows ≡ a.rows = p.rows in
-    let pw : t.width ≡ a.width = p.width in
-    record {
-      rows = sym p.rows ∙ q.rows;
-      width = sym p.width ∙ q.width;
-      basic = λ i h. sym (p.basic i (omega arith)) ∙ q.basic i (omega arith);
-      nonbasic = λ j h. sym (p.nonbasic j (omega arith)) ∙ q.nonbasic j (omega arith);
-      cell = λ i j h k. sym (p.cell i j (omega arith) (omega arith)) ∙ q.cell i j (omega arith) (omega arith);
-      right = λ i h. sym (p.right i (omega arith)) ∙ q.right i (omega arith);
-    }
 
 numbers_same : (a b : WholeTableau) → a.starts ≡ b.starts → a.basics ≡ b.basics → a.nonbasics ≡ b.nonbasics → a.rated ≡ b.rated → a.numbers ≡ b.numbers → a ≡ b
 numbers_same a b p q r s t =

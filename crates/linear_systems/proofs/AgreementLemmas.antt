@@ -32,6 +32,10 @@ alike_trans t u v a b =
       right = λ i h. a.right i h ∙ b.right i (subst (λ n. i < n) a.rows h);
     }
 
+-- two that agree with a third
+pub alike_both : (t a b : Tableau) → Alike t a → Alike t b → Alike a b
+alike_both t a b p q = alike_trans a t b (alike_sym t a p) q
+
 pub alike_pivot : (t u : Tableau) (r c : ℕ) → r < t.rows → c < t.width → Alike t u → Alike (pivot t r c) (pivot u r c)
 alike_pivot t u r c hr hc a =
     let q : inv_ℚ (t.cell r c) ≡ inv_ℚ (u.cell r c) = ap inv_ℚ (a.cell r c hr hc) in

@@ -1,9 +1,9 @@
 -- the lexicographic row: its pivot keeps keys positive, no two quotients are equal, there is just one
-use Rattle.std.proofs.Common.{ℕ, suc, zero, pos, ◌<◌, ◌≤◌, ◌≡◌, ◌≢◌, refl, sym, ap, ◌∙◌, subst, [], ◌∷◌, arith, ◌⊎◌, inl, inr, eq-or-lt_of_le, le_of_suc-le-suc}
+use Rattle.std.proofs.Common.{ℕ, suc, zero, pos, ◌<◌, ◌≤◌, ◌≡◌, ◌≢◌, refl, sym, ap, ap₂, ◌∙◌, subst, [], ◌∷◌, arith, ◌⊎◌, inl, inr, eq-or-lt_of_le, le_of_suc-le-suc}
 use Rattle.std.proofs.lemmas.Int.{ints}
 use Rattle.std.proofs.lemmas.Bool.{cases_eq}
 use Rattle.rational.proofs.InverseLemmas.{ne_zero_of_pos, inv_pos}
-use Rattle.rational.specs.Rational.{ℚ, ◌*ℚ◌, inv_ℚ, zero_ℚ, one_ℚ, ◌≤ℚ◌, ◌<ℚ◌}
+use Rattle.rational.specs.Rational.{ℚ, ◌*ℚ◌, ◌-ℚ◌, inv_ℚ, zero_ℚ, one_ℚ, ◌≤ℚ◌, ◌<ℚ◌}
 use Rattle.rational.specs.Sum.{sum_to}
 use Rattle.linear_systems.specs.Tableau.{Tableau, pivot}
 use Rattle.rational.proofs.RationalRing.{rational_ring}
@@ -56,6 +56,19 @@ quotients_apart N m s t i k a b st p hi hk ne an e =
 
 pub quotients_differ : (N m : ℕ) (s t : Tableau) (i k : ℕ) (a b : ℚ) → IsStart N m s → IsReached N m s t → i < m → k < m → i ≢ k → a ≢ zero_ℚ → ((p : ℕ) → p < suc m → key s.basic t i p *ℚ inv_ℚ a ≡ key s.basic t k p *ℚ inv_ℚ b) → ⊥
 quotients_differ N m s t i k a b st p hi hk ne an e = quotients_apart N m s t i k a b st p hi hk ne an (λ q h. e (suc q) (omega arith))
+
+-- ---- the same row by keys of the same variables
+key_by : (m : ℕ) (b d : ℕ → ℕ) (t : Tableau) (i p : ℕ) → ((q : ℕ) → q < m → b q ≡ d q) → p < suc m → key b t i p ≡ key d t i p
+key_by m b d t i zero h l = refl
+key_by m b d t i (suc p) h l = ap (coefficient t i) (h p (omega arith))
+
+pub lex_row_by : (k m : ℕ) (b d : ℕ → ℕ) (t : Tableau) (c r : ℕ) → ((q : ℕ) → q < m → b q ≡ d q) → IsLexicographicRow k m b t c r → IsLexicographicRow k m d t c r
+lex_row_by k m b d t c r h l =
+    record {
+      within = l.within;
+      positive = l.positive;
+      least = λ i hi ne p. record { by = lex_same (suc m) _ _ (λ j hj. ap₂ (λ x y. (x *ℚ inv_ℚ (t.cell i c)) -ℚ (y *ℚ inv_ℚ (t.cell r c))) (key_by m b d t i j h hj) (key_by m b d t r j h hj)) (l.least i hi ne p).by };
+    }
 
 -- ---- just one
 pub lex_row_once : (m : ℕ) (b : ℕ → ℕ) (t : Tableau) (c r k : ℕ) → IsLexicographicRow m m b t c r → IsLexicographicRow m m b t c k → r ≡ k

@@ -1,9 +1,9 @@
 -- Lists and their elements.
-use Rattle.std.proofs.Common.{◌≡◌, ℕ, zero, suc, ◌+◌, ◌<◌, inl, inr, Bool, true, false, cond, Some, List, [], ◌∷◌, ◌++◌, length, get_or, set, slice_get, replicate, refl, sym, ap, ◌∙◌, subst, append_assoc, add-zero, zero-add, arith}
-use Rattle.std.specs.Prelude.{All}
+use Rattle.std.proofs.Common.{◌≡◌, ℕ, zero, suc, ◌+◌, ◌<◌, ◌⊎◌, inl, inr, Bool, false, Some, List, [], ◌∷◌, ◌++◌, length, get_or, set, slice_get, replicate, refl, sym, ap, ◌∙◌, subst, append_assoc, add-zero, zero-add, arith}
+use Rattle.std.specs.Prelude.{All, filter}
 use Rattle.std.specs.List.{range_with_len, flat_map}
 use Rattle.std.proofs.lemmas.Bool.{cases_lt}
-use Rattle.std.proofs.lemmas.Option.{slice_get_within, get_or_from_slice_get}
+use Rattle.std.proofs.lemmas.Option.{same_Some, slice_get_within, get_or_from_slice_get}
 use Rattle.std.proofs.lemmas.List.{append-nil, get_or-replicate, get_or_past, length-replicate}
 use Rattle.std.proofs.lemmas.List.Elements.{All-nil, All-cons, All-head, All-tail}
 
@@ -17,6 +17,22 @@ element (x ∷ xs) (suc k) below = element xs k (omega arith)
 pub slice_get-end : {A : Type 0} (xs : List A) (x : A) → slice_get (xs ++ x ∷ []) (length xs) ≡ Some x
 slice_get-end [] x = refl
 slice_get-end (z ∷ xs) x = slice_get-end xs x
+
+-- an element stays where others follow
+pub slice_get-longer : {A : Type 0} (xs ys : List A) (k : ℕ) (x : A) → slice_get xs k ≡ Some x → slice_get (xs ++ ys) k ≡ Some x
+slice_get-longer [] ys k x e = cc
+slice_get-longer (z ∷ xs) ys zero x e = e
+slice_get-longer (z ∷ xs) ys (suc k) x e = slice_get-longer xs ys k x e
+
+-- an element stood there before, or is the one at the end
+pub slice_get-push_cases : {A : Type 0} (xs : List A) (y : A) (k : ℕ) (x : A) → slice_get (xs ++ y ∷ []) k ≡ Some x → (slice_get xs k ≡ Some x) ⊎ ((k ≡ length xs) × (x ≡ y))
+slice_get-push_cases [] y zero x e = inr (refl, sym (same_Some _ _ e))
+slice_get-push_cases [] y (suc k) x e = cc
+slice_get-push_cases (z ∷ xs) y zero x e = inl e
+slice_get-push_cases (z ∷ xs) y (suc k) x e = elim (slice_get-push_cases xs y k x e) [
+  | inl h ↦ inl h
+  | inr h ↦ inr (ap suc h.0, h.1)
+]
 
 -- a list of two
 pub two-elements : (xs : List ℕ) → length xs ≡ 2 → xs ≡ get_or xs 0 0 ∷ get_or xs 1 0 ∷ []
@@ -37,11 +53,6 @@ pub set-set : (xs : List ℕ) (i a b : ℕ) → set (set xs i a) i b ≡ set xs 
 set-set [] i a b = refl
 set-set (x ∷ xs) zero a b = refl
 set-set (x ∷ xs) (suc i) a b = ap (λ v. x ∷ v) (set-set xs i a b)
-
--- a number that a test puts in front leaves the list's end as it is
-pub test_in_front : (b : Bool) (s : ℕ) (xs ys zs : List ℕ) → xs ≡ ys ++ zs → cond b (s ∷ xs) xs ≡ cond b (s ∷ ys) ys ++ zs
-test_in_front true s xs ys zs same = ap (λ v. s ∷ v) same
-test_in_front false s xs ys zs same = same
 
 -- what holds of each element holds of the element at a place
 pub all_at : {X : Type 0} (P : X → Type 0) (xs : List X) (k : ℕ) (x : X) → All P xs → slice_get xs k ≡ Some x → P x
@@ -64,6 +75,16 @@ range-last n = go 0 n ∙ ap (λ x. range_with_len 0 n ++ x ∷ []) (omega arith
     go : (a m : ℕ) → range_with_len a (suc m) ≡ range_with_len a m ++ (a + m) ∷ []
     go a zero = ap (λ x. x ∷ []) (sym (add-zero a))
     go a (suc m) = ap (λ xs. a ∷ xs) (go (a + 1) m ∙ ap (λ x. range_with_len (a + 1) m ++ x ∷ []) (omega arith))
+
+-- tests that agree on them pick the same ones
+pub filter-same : (p q : ℕ → Bool) (m n : ℕ) → ((k : ℕ) → k < m + n → p k ≡ q k) → filter p (range_with_len m n) ≡ filter q (range_with_len m n)
+filter-same p q m zero same = refl
+filter-same p q m (suc n) same = rw (same m (omega arith), filter-same p q (m + 1) n (λ k below. same k (omega arith))) refl
+
+-- a test that fails at each of them picks none
+pub filter-none : (p : ℕ → Bool) (m n : ℕ) → ((k : ℕ) → k < m + n → p k ≡ false) → filter p (range_with_len m n) ≡ []
+filter-none p m zero fails = refl
+filter-none p m (suc n) fails = rw (fails m (omega arith), filter-none p (m + 1) n (λ k below. fails k (omega arith))) refl
 
 -- what is made of the first n numbers from a on, and of the next
 made-more : {X : Type 0} (f : ℕ → List X) (a n : ℕ) → flat_map f (range_with_len a (suc n)) ≡ flat_map f (range_with_len a n) ++ f (a + n)

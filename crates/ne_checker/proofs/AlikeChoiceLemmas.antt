@@ -1,9 +1,8 @@
 -- Behaviours and choices that are the same at the players' sets have the same steps.
-use Rattle.std.proofs.Common.{ℕ, zero, suc, ◌<◌, ◌≡◌, inl, inr, Option, None, Some, List, [], ◌∷◌, ◌++◌, All, length, get_or, refl, sym, ap, ap₂, ◌∙◌, subst, arith}
+use Rattle.std.proofs.Common.{ℕ, zero, suc, ◌<◌, ◌≡◌, inl, inr, Option, None, Some, List, [], ◌∷◌, ◌++◌, length, get_or, refl, sym, ap, ap₂, ◌∙◌, arith}
 use Rattle.std.specs.Prelude.{◌&&◌, if◌then◌else◌, nat_lt, reverse}
 use Rattle.std.specs.List.{flat_map, range_with_len}
-use Rattle.std.proofs.lemmas.List.Elements.{All-filter, filter_passes}
-use Rattle.std.proofs.lemmas.List.FromFn.{length-range_with_len, get_or-range_with_len}
+use Rattle.std.proofs.lemmas.Option.{slice_get-get_or}
 use Rattle.lists.proofs.ElementLemmas.{made-next}
 use Rattle.rational.specs.Rational.{ℚ, ◌*ℚ◌, zero_ℚ}
 use Rattle.rational.specs.Sum.{sum_to}
@@ -14,9 +13,10 @@ use Rattle.game_theory.specs.Trees.{Tree, IsTree}
 use Rattle.game_theory.specs.Behaviour.{Behaviour, action_probability, value}
 use Rattle.game_theory.specs.Children.{child}
 use Rattle.game_theory.specs.OwnSets.{own_sets}
+use Rattle.game_theory.proofs.IndexLemmas.{numbers_with-tell}
 use Rattle.game_theory.proofs.NamedChildLemmas.{child-later}
-use Rattle.game_theory.proofs.OwnSetLemmas.{IsAmong, is_index-decides}
-use Rattle.best_replies.specs.Replies.{reply_value, is_member}
+use Rattle.game_theory.proofs.OwnSetLemmas.{IsAmong}
+use Rattle.best_replies.specs.Replies.{reply_value}
 use Rattle.best_replies.proofs.ReplyValueLemmas.{reply_value-agree}
 use Rattle.best_replies.proofs.WeightLemmas.{own_or_not, if_own, if_other}
 use Rattle.pure_payoffs.specs.Steps.{branch_steps, chance_steps}
@@ -60,9 +60,7 @@ turned-alike (x ∷ xs) f g h = turned f x xs ∙ ap₂ (λ y z. y ++ z) (turned
 
 -- ---- the nodes of a set
 members-are : (t : Tree) (s j : ℕ) → j < length (members t s) → (get_or (members t s) j 0 < t.size) × (t.set (get_or (members t s) j 0) ≡ Some s)
-members-are t s j l =
-    let below : All (λ k. k < t.size) (range_with_len 0 t.size) = λ k d m. let n : k < t.size = subst (λ x. k < x) (length-range_with_len 0 t.size) m in subst (λ x. x < t.size) (sym (get_or-range_with_len 0 t.size k d n)) (omega arith) in
-    (All-filter (is_member t s) (λ k. k < t.size) (range_with_len 0 t.size) below j 0 l, (is_index-decides (t.set (get_or (members t s) j 0)) s).0 (filter_passes (is_member t s) (range_with_len 0 t.size) j 0 l))
+members-are t s j l = let found = numbers_with-tell t.set s t.size j _ (slice_get-get_or (members t s) j 0 l) in (found.0, found.1)
 
 -- ---- behaviours and choices
 module _ (t : Tree) (b behaviour : Behaviour) (i : ℕ) (choice other : ℕ → ℕ) (w : IsTree t) (alike : AreAlike t b behaviour) (chosen : (s : ℕ) → s < t.sets → t.owner s ≡ Some i → choice s < t.actions s) (same : (s : ℕ) → s < t.sets → t.owner s ≡ Some i → choice s ≡ other s) where

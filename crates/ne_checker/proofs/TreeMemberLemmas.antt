@@ -1,10 +1,10 @@
 -- The nodes of a set, and sums over them.
-use Rattle.std.proofs.Common.{ℕ, zero, suc, ◌+◌, ◌<◌, ◌≤◌, ◌≡◌, inl, inr, Bool, true, false, None, Some, List, [], ◌∷◌, ◌++◌, All, length, get_or, set, refl, sym, ap, ap₂, ◌∙◌, subst, add-zero, add-one, arith}
+use Rattle.std.proofs.Common.{ℕ, zero, suc, ◌+◌, ◌<◌, ◌≤◌, ◌≡◌, inl, inr, Bool, true, false, Some, List, [], ◌∷◌, ◌++◌, All, length, get_or, set, refl, sym, ap, ap₂, ◌∙◌, subst, add-one, arith}
 use Rattle.std.specs.Prelude.{filter, cond}
 use Rattle.std.specs.List.{range_with_len}
 use Rattle.std.proofs.Math.Seq.{get_or-append_seam}
 use Rattle.std.proofs.lemmas.Bool.{cases_eq, cases_lt}
-use Rattle.std.proofs.lemmas.List.{get_or_append_left, get_or-map, length_push, get_or-set_same, get_or-set_other, append-nil}
+use Rattle.std.proofs.lemmas.List.{get_or_append_left, length_push, get_or-set_same, get_or-set_other, append-nil}
 use Rattle.std.proofs.lemmas.List.Elements.{filter-append}
 use Rattle.lists.proofs.ElementLemmas.{range-last}
 use Rattle.rational.specs.Rational.{ℚ, ◌+ℚ◌, zero_ℚ}
@@ -13,12 +13,11 @@ use Rattle.rational.proofs.RationalRing.{+ℚ-zero}
 use Rattle.rational.proofs.SumLemmas.{sum_to-same}
 use Rattle.frac128.specs.Steps.{AddFits, StepFits}
 use Rattle.game_theory.specs.Trees.{Tree, IsTree}
-use Rattle.game_theory.specs.Behaviour.{Behaviour, is_index}
+use Rattle.game_theory.specs.Behaviour.{Behaviour}
 use Rattle.game_theory.specs.Children.{child}
 use Rattle.game_theory.proofs.ChildLemmas.{where_true}
 use Rattle.game_theory.proofs.NamedChildLemmas.{child-is, child-is_child, child-later}
-use Rattle.game_core.specs.declared.tree.Node.{Node}
-use Rattle.game_core.specs.Tree.{GameTree, InformationSet, IsGameTree as is_valid, members_from}
+use Rattle.game_core.specs.Tree.{GameTree, InformationSet, IsGameTree as is_valid}
 use Rattle.game_core.specs.TreeGame.{game_of_tree}
 use Rattle.best_replies.specs.Replies.{action_value, reply_value, is_member}
 use Rattle.best_replies.proofs.ReplyValueLemmas.{action_value-by_members}
@@ -29,20 +28,12 @@ use Rattle.ne_checker.specs.TreeSteps.{members, member_child, action_steps, repl
 use Rattle.ne_checker.proofs.TreeSumLemmas.{sum-more}
 
 -- ---- the members of a tree's set
--- those that the tree lists pass the test
-members_from-filter : (f : ℕ → Bool) (m s : ℕ) (nodes : List Node) → ((j : ℕ) (d : Node) → j < length nodes → f (m + j) ≡ is_index (get_or nodes j d).set s) → members_from m s nodes ≡ filter f (range_with_len m (length nodes))
-members_from-filter f m s [] h = refl
-members_from-filter f m s (node ∷ nodes) h =
-    let here : f m ≡ is_index node.set s = subst (λ x. f x ≡ is_index node.set s) (add-zero m) (h 0 node (omega arith)) in
-    let rest : members_from (m + 1) s nodes ≡ filter f (range_with_len (m + 1) (length nodes)) = members_from-filter f (m + 1) s nodes (λ j d l. subst (λ x. f x ≡ is_index (get_or nodes j d).set s) (omega arith) (h (suc j) d (omega arith))) in
-    ap (λ n. cond (is_index node.set s) (m ∷ members_from n s nodes) (members_from n s nodes)) (sym (add-one m))
-    ∙ ap₂ (λ b xs. cond b (m ∷ xs) xs) (sym here) rest
-
+-- those that the tree lists
 pub members-listed : (t : GameTree) (sets : List InformationSet) (s : ℕ) (set : InformationSet) → is_valid t → sets ≡ t.sets → s < length t.sets → set ≡ get_or sets s set
     → (set.members ≡ members (game_of_tree t) s) × AreMembers (game_of_tree t) s set.members
 members-listed t sets s set valid same below is =
     let at = members-at t sets s set valid same below is in
-    ((valid.sets_fit s set at.0).members_are ∙ members_from-filter (is_member (game_of_tree t) s) 0 s t.nodes (λ j d l. ap (is_member (game_of_tree t) s) (omega arith) ∙ ap (λ o. is_index o s) (get_or-map (λ node. node.set) t.nodes j d None l)), at.1)
+    ((valid.sets_fit s set at.0).members_are, at.1)
 
 -- ---- sums over members
 module _ (g : ℕ → ℚ) where

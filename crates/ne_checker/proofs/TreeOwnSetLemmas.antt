@@ -9,16 +9,16 @@ use Rattle.std.proofs.lemmas.List.Elements.{All-nil, All-append}
 use Rattle.rational.specs.Rational.{ℚ}
 use Rattle.game_theory.specs.Trees.{Tree}
 use Rattle.game_theory.specs.Behaviour.{Behaviour}
-use Rattle.game_theory.specs.OwnSets.{own_sets, own_numbers}
+use Rattle.game_theory.specs.OwnSets.{own_sets, numbers_with}
 use Rattle.frac128.specs.Steps.{Step, StepFits, IsFirstUnfit}
 use Rattle.frac128.proofs.StepRunLemmas.{first_unfit-more, first_unfit-following}
-use Rattle.strategy_lists.proofs.OwnNumberLemmas.{own_numbers-own, own_numbers-other}
+use Rattle.game_theory.proofs.IndexLemmas.{numbers_with-last, numbers_with-other}
 use Rattle.ne_checker.specs.TreeSides.{AreDecided}
 use Rattle.ne_checker.specs.TreeSteps.{decision_steps, decisions}
 
 -- an own set stands between those below it and the later ones
-own-between : (t : Tree) (i n : ℕ) (later : List ℕ) → t.owner n ≡ Some i → own_numbers t.owner i (suc n) ++ later ≡ own_numbers t.owner i n ++ n ∷ later
-own-between t i n later o = ap (λ xs. xs ++ later) (own_numbers-own t.owner i n o) ∙ append_assoc (own_numbers t.owner i n) (n ∷ []) later
+own-between : (t : Tree) (i n : ℕ) (later : List ℕ) → t.owner n ≡ Some i → numbers_with t.owner i (suc n) ++ later ≡ numbers_with t.owner i n ++ n ∷ later
+own-between t i n later o = ap (λ xs. xs ++ later) (numbers_with-last t.owner i n o) ∙ append_assoc (numbers_with t.owner i n) (n ∷ []) later
 
 -- the steps of one more set after those of later sets
 pub turned : (f : ℕ → List Step) (n : ℕ) (later : List ℕ) → flat_map f (reverse (n ∷ later)) ≡ flat_map f (reverse later) ++ f n
@@ -28,7 +28,7 @@ module _ (t : Tree) (b : Behaviour) (i : ℕ) (choice : ℕ → ℕ) (weights : 
   -- the own sets from this number on are decided, and the steps of their decisions fit
   pub record AreAllDecided (choices : List ℕ) (values : List ℚ) (n : ℕ) : Type 0 where
     pub later : List ℕ
-    pub are_later : own_numbers t.owner i n ++ later ≡ own_sets t i
+    pub are_later : numbers_with t.owner i n ++ later ≡ own_sets t i
     pub decided : AreDecided t b i choice weights choices values n 0
     pub fit : All StepFits (flat_map (decision_steps t b i choice) (reverse later))
 
@@ -54,7 +54,7 @@ module _ (t : Tree) (b : Behaviour) (i : ℕ) (choice : ℕ → ℕ) (weights : 
     pub all-other : t.owner n ≢ Some i → AreAllDecided choices values n
     all-other apart = record {
       later = h.later;
-      are_later = ap (λ xs. xs ++ h.later) (sym (own_numbers-other t.owner i n apart)) ∙ h.are_later;
+      are_later = ap (λ xs. xs ++ h.later) (sym (numbers_with-other t.owner i n apart)) ∙ h.are_later;
       decided = record {
         best = h.decided.best;
         ascend = h.decided.ascend;
@@ -72,7 +72,7 @@ module _ (t : Tree) (b : Behaviour) (i : ℕ) (choice : ℕ → ℕ) (weights : 
     pub decision-refused : (u : Step) → t.owner n ≡ Some i → IsFirstUnfit (decision_steps t b i choice n) u → IsFirstUnfit (decisions t b i choice) u
     decision-refused u o refused =
         let f = decision_steps t b i choice in
-        let before = own_numbers t.owner i n in
+        let before = numbers_with t.owner i n in
         let sets : own_sets t i ≡ before ++ (n ∷ h.later) = sym h.are_later ∙ own-between t i n h.later o in
         let whole : decisions t b i choice ≡ (flat_map f (reverse h.later) ++ f n) ++ flat_map f (reverse before) =
         ap (λ xs. flat_map f (reverse xs)) sets ∙ ap (flat_map f) (reverse-append before (n ∷ h.later)) ∙ flat_map-append f (reverse (n ∷ h.later)) (reverse before)

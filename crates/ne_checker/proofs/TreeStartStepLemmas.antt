@@ -11,8 +11,8 @@ use Rattle.game_theory.proofs.ProfileLineLemmas.{length-listed, get_or-listed}
 use Rattle.game_theory.specs.Trees.{Tree, IsTree}
 use Rattle.game_theory.specs.Behaviour.{Behaviour}
 use Rattle.game_theory.specs.TreeEntries.{own_entries, entries_below, tree_entries}
-use Rattle.game_theory.specs.OwnSets.{own_numbers}
-use Rattle.strategy_lists.proofs.OwnNumberLemmas.{own_numbers-own, own_numbers-other}
+use Rattle.game_theory.specs.OwnSets.{numbers_with}
+use Rattle.game_theory.proofs.IndexLemmas.{numbers_with-last, numbers_with-other}
 use Rattle.lists.proofs.ElementLemmas.{made-next}
 use Rattle.ne_checker.specs.TreeStarts.{AreStarts, AreStartsTo, ComesTo, entries_to}
 
@@ -32,9 +32,9 @@ module _ (t : Tree) (i n : ℕ) (starts : List ℕ) (next : ℕ) (h : AreStartsT
   entries-own : (b : Behaviour) → t.owner n ≡ Some i → entries_to t b i (n + 1) ≡ entries_to t b i n ++ listed (t.actions n) (b n)
   entries-own b o =
       let f : ℕ → List ℚ = λ s. listed (t.actions s) (b s) in
-      ap (λ xs. entries_below t b i ++ flat_map f xs) (ap (own_numbers t.owner i) (add-one n) ∙ own_numbers-own t.owner i n o)
-      ∙ ap (λ xs. entries_below t b i ++ xs) (flat_map-append f (own_numbers t.owner i n) (n ∷ []) ∙ ap (λ xs. flat_map f (own_numbers t.owner i n) ++ xs) (append-nil (f n)))
-      ∙ sym (append_assoc (entries_below t b i) (flat_map f (own_numbers t.owner i n)) (f n))
+      ap (λ xs. entries_below t b i ++ flat_map f xs) (ap (numbers_with t.owner i) (add-one n) ∙ numbers_with-last t.owner i n o)
+      ∙ ap (λ xs. entries_below t b i ++ xs) (flat_map-append f (numbers_with t.owner i n) (n ∷ []) ∙ ap (λ xs. flat_map f (numbers_with t.owner i n) ++ xs) (append-nil (f n)))
+      ∙ sym (append_assoc (entries_below t b i) (flat_map f (numbers_with t.owner i n)) (f n))
 
   -- the start of one own set more
   pub starts-own : n < t.sets → t.owner n ≡ Some i → AreStartsTo t i (n + 1) (set starts n next) (next + t.actions n)
@@ -66,7 +66,7 @@ module _ (t : Tree) (i n : ℕ) (starts : List ℕ) (next : ℕ) (h : AreStartsT
   }
     where
       entries-other : (b : Behaviour) → entries_to t b i (n + 1) ≡ entries_to t b i n
-      entries-other b = ap (λ xs. entries_below t b i ++ flat_map (λ s. listed (t.actions s) (b s)) xs) (ap (own_numbers t.owner i) (add-one n) ∙ own_numbers-other t.owner i n o)
+      entries-other b = ap (λ xs. entries_below t b i ++ flat_map (λ s. listed (t.actions s) (b s)) xs) (ap (numbers_with t.owner i) (add-one n) ∙ numbers_with-other t.owner i n o)
 
       earlier : (s j : ℕ) → t.owner s ≡ Some j → ComesTo i (n + 1) j s → ComesTo i n j s
       earlier s j own (inl before) = inl before

@@ -6,7 +6,7 @@ use Rattle.game_theory.specs.Lines.{listed}
 use Rattle.game_theory.specs.Trees.{Tree}
 use Rattle.game_theory.specs.Behaviour.{Behaviour}
 use Rattle.game_theory.specs.TreeEntries.{entries_below, tree_entries}
-use Rattle.game_theory.specs.OwnSets.{own_numbers}
+use Rattle.game_theory.specs.OwnSets.{numbers_with}
 
 -- at each player's set the place of the set's first entry among those of any behaviour
 pub record AreStarts (t : Tree) (starts : List ℕ) : Type 0 where
@@ -17,7 +17,7 @@ pub record AreStarts (t : Tree) (starts : List ℕ) : Type 0 where
 -- the entries of the players before player i, and those at this player's sets below n
 abbrev pub entries_to : Tree → Behaviour → ℕ → ℕ → List ℚ
 entries_to t b i n =
-    entries_below t b i ++ flat_map (λ s. listed (t.actions s) (b s)) (own_numbers t.owner i n)
+    entries_below t b i ++ flat_map (λ s. listed (t.actions s) (b s)) (numbers_with t.owner i n)
 
 -- set s of player j comes among these
 abbrev pub ComesTo : ℕ → ℕ → ℕ → ℕ → Type 0

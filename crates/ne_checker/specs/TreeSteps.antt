@@ -1,5 +1,5 @@
 -- The steps in which it is checked that no reply of a player pays more than a behaviour on a tree.
-use Rattle.std.specs.Prelude.{ℕ, zero, suc, ◌&&◌, nat_lt, Bool, true, false, if◌then◌else◌, List, [], ◌∷◌, ◌++◌, length, slice_index, reverse, filter, Option, Some, None}
+use Rattle.std.specs.Prelude.{ℕ, zero, suc, ◌&&◌, nat_lt, Bool, true, false, if◌then◌else◌, List, [], ◌∷◌, ◌++◌, length, slice_index, reverse, Option, Some, None}
 use Rattle.std.specs.List.{flat_map, range_with_len}
 use Rattle.rational.specs.Rational.{ℚ, ◌*ℚ◌, zero_ℚ}
 use Rattle.rational.specs.Sum.{sum_to}
@@ -8,10 +8,10 @@ use Rattle.frac128.specs.declared.steps.Op.TheVariants.{Add, Mul}
 use Rattle.game_theory.specs.Trees.{Tree}
 use Rattle.game_theory.specs.Behaviour.{Behaviour, action_probability, branch_probability, is_own, value}
 use Rattle.game_theory.specs.Children.{child}
-use Rattle.game_theory.specs.OwnSets.{own_sets}
+use Rattle.game_theory.specs.OwnSets.{own_sets, numbers_with}
 use Rattle.pure_payoffs.specs.Steps.{chance_steps}
 use Rattle.best_replies.specs.Reaching.{weight}
-use Rattle.best_replies.specs.Replies.{reply_value, is_member}
+use Rattle.best_replies.specs.Replies.{reply_value}
 
 -- ---- what the behaviour pays
 -- the steps at a node by its set: none at an end, and else those of the sum over the actions, and
@@ -94,7 +94,7 @@ reply_steps t b i choice k = reply_steps_to t b i choice t.size k
 -- ---- decisions
 -- the nodes of set s in order
 abbrev pub members : Tree → ℕ → List ℕ
-members t s = filter (is_member t s) (range_with_len 0 t.size)
+members t s = numbers_with t.set s t.size
 
 -- the node to which action a of the set's node j leads
 abbrev pub member_child : Tree → ℕ → ℕ → ℕ → ℕ

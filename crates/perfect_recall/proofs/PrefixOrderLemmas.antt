@@ -19,7 +19,7 @@ above-child t m k (place ∷ free) later is h = (h.0, h.1, (suc h.2.0, (later, s
 -- and after places of the node's own
 above-own : (t : Tree) (k a n : ℕ) (free : List OpenBranch) → AreAbove t k free → AreAbove t k (branches_after (Some k) a n ++ free)
 above-own t k a zero free h = h
-above-own t k a (suc n) free h = (k, refl, (0, refl), above-own t k (suc a) n free h)
+above-own t k a (suc n) free h = (k, refl, (0, refl), above-own t k (a + 1) n free h)
 
 -- nodes in prefix order, numbered from suc m on
 parent-above :

@@ -6,7 +6,7 @@ use Rattle.rational.specs.Rational.{ℚ}
 use Rattle.rational.specs.Extremes.{IsLeast}
 use Rattle.rational.proofs.ExtremeLemmas.{least-single}
 use Rattle.linear_systems.specs.Tableau.{Tableau}
-use Rattle.linear_systems.proofs.AgreementLemmas.{alike_sym, alike_trans}
+use Rattle.linear_systems.proofs.AgreementLemmas.{alike_both}
 use Rattle.game_theory.specs.Profiles.{Game}
 use Rattle.frac128.proofs.FirstUnfitLemmas.{all_fit-single}
 use Rattle.game_core.specs.Limits.{within}
@@ -37,7 +37,7 @@ module _ (g : Game) where
 one_system : (s t : Tableau) (a b : LinearSystem) → s ≡ t → IsRatedSystem s a → IsRatedSystem t b → a ≡ b
 one_system s t a b same h g =
     let k : IsRatedSystem s b = subst (λ x. IsRatedSystem x b) (sym same) g in
-    systems_determined a b h.valid k.valid (alike_trans (system_of a) s (system_of b) (alike_sym s (system_of a) h.alike) k.alike) (h.rated ∙ sym k.rated)
+    systems_determined a b h.valid k.valid (alike_both s (system_of a) (system_of b) h.alike k.alike) (h.rated ∙ sym k.rated)
 
 module _ (g : Game) (least least' : ℚ) where
   -- the numbers of strategies

@@ -1,10 +1,12 @@
 -- Leaves go into the cells one after another.
 use Rattle.std.proofs.Common.{ℕ, zero, suc, ◌+◌, ◌*◌, ◌/◌, ◌%◌, ◌^◌, ◌<◌, ◌≡◌, ◌≢◌, Bool, true, false, Decides, List, [], ◌∷◌, ◌++◌, length, map, take, get_or, set, All, refl, sym, ap, ap₂, ◌∙◌, subst, Ok, Err, arith}
 use Rattle.std.specs.Prelude.{◌==◌, ◌&&◌, if◌then◌else◌, Any, Contains}
+use Rattle.std.specs.List.{enumerate_from}
 use Rattle.std.specs.List.Sorted.{IsStrictlyIncreasing}
 use Rattle.std.proofs.lemmas.Bool.Decides.{Decides-eqb, Decides-and, not_from_Decides}
 use Rattle.std.proofs.lemmas.List.{length-map, get_or-map, take_all, take_more}
 use Rattle.std.proofs.lemmas.List.Elements.{All-map, All-get_or, All-from_get_or, All-weaker}
+use Rattle.std.proofs.lemmas.List.FromFn.{length-enumerate_from, get_or-enumerate_from}
 use Rattle.std.proofs.lemmas.Option.{slice_get_within, get_or_from_slice_get}
 use Rattle.std.proofs.lemmas.Nat.{div-add-mod'}
 use Rattle.rational.specs.Rational.{ℚ, ◌+ℚ◌, zero_ℚ}
@@ -16,7 +18,7 @@ use Rattle.sequence_data.specs.declared.types.Leaf.{Leaf}
 use Rattle.sequence_data.specs.declared.types.Cell.{Cell}
 use Rattle.sequence_data.specs.Cells.{total, chance_one, chance_two, cell_at, IsBefore, AreCellsInOrder, IsAt, AreCells}
 use Rattle.sequence_data.specs.Gathered.{cell_place, cell_in, ArePlaces, added_cell}
-use Rattle.sequence_data.specs.Steps.{added_steps, gathering_in, fit_at, leaf_steps, numbered}
+use Rattle.sequence_data.specs.Steps.{added_steps, gathering_in, fit_at, leaf_steps}
 use Rattle.sequence_data.specs.declared.stop.SeqStop.{SeqStop}
 use Rattle.sequence_data.proofs.PlaceLemmas.{any_at, all-of_each, get_or-inside, rises, number-one, row-of_place, column-of_place, before-by_place}
 
@@ -107,36 +109,25 @@ cells-after columns places some up leaves n x l at within i inside is cells old 
     sym (cells-more columns places some up (take n leaves) x within i inside is cells cell are here) ∙ ap (λ xs. map (cell_in columns xs) places) (sym one)
 
 -- ---- the steps of the leaves
--- there is a number for each leaf
-length-numbered : (n : ℕ) (leaves : List Leaf) → length (numbered n leaves) ≡ length leaves
-length-numbered n [] = refl
-length-numbered n (l ∷ leaves) = ap suc (length-numbered (suc n) leaves)
+module _ (leaves : List Leaf) (i : ℕ) (x : Leaf) (cell : Cell) (l : i < length leaves) (is : x ≡ get_or leaves i x) (at : cell ≡ cell_at (take i leaves) x.row x.column) (fit : All (StepsFit (leaf_steps leaves)) (take i (enumerate_from 0 leaves))) where
+  within : i < length (enumerate_from 0 leaves)
+  within = omega (arith, l, length-enumerate_from 0 leaves)
 
--- a leaf with its number
-numbered-at : (n : ℕ) (leaves : List Leaf) (i : ℕ) (x : Leaf) (d : ℕ × Leaf) → i < length leaves → x ≡ get_or leaves i x → get_or (numbered n leaves) i d ≡ (n + i, x)
-numbered-at n [] i x d l is = absurd (omega arith)
-numbered-at n (y ∷ leaves) zero x d l is = ap₂ (λ k z. (k, z)) (omega arith) (sym is)
-numbered-at n (y ∷ leaves) (suc i) x d l is = numbered-at (suc n) leaves i x d (omega arith) is ∙ ap (λ k. (k, x)) (omega arith)
-
-module _ (leaves : List Leaf) (i : ℕ) (x : Leaf) (cell : Cell) (l : i < length leaves) (is : x ≡ get_or leaves i x) (at : cell ≡ cell_at (take i leaves) x.row x.column) (fit : All (StepsFit (leaf_steps leaves)) (take i (numbered 0 leaves))) where
-  within : i < length (numbered 0 leaves)
-  within = omega (arith, l, length-numbered 0 leaves)
-
-  here : (i, x) ≡ get_or (numbered 0 leaves) i (i, x)
-  here = sym (numbered-at 0 leaves i x (i, x) l is ∙ ap (λ k. (k, x)) (omega arith))
+  here : (i, x) ≡ get_or (enumerate_from 0 leaves) i (i, x)
+  here = sym (get_or-enumerate_from 0 leaves i (i, x) l ∙ ap₂ (λ k y. (k, y)) (omega arith) (sym is))
 
   -- what stops a leaf's steps stops those of all leaves
   pub gather-stop : (stop : SeqStop) → fit_at x.place (added_steps cell x) (Err stop) → gathering_in leaves (Err stop)
   gather-stop stop (step, h, told) =
-      (((i, x), step), first_unfit_here (leaf_steps leaves) (numbered 0 leaves) i (i, x) within here step fit (subst (λ c. IsFirstUnfit (added_steps c x) step) at h), told)
+      (((i, x), step), first_unfit_here (leaf_steps leaves) (enumerate_from 0 leaves) i (i, x) within here step fit (subst (λ c. IsFirstUnfit (added_steps c x) step) at h), told)
 
   -- the steps with one more leaf fit
-  pub gather-fit : All StepFits (added_steps cell x) → All (StepsFit (leaf_steps leaves)) (take (i + 1) (numbered 0 leaves))
-  gather-fit h = fits_next (leaf_steps leaves) (numbered 0 leaves) i (i, x) within here fit (subst (λ c. All StepFits (added_steps c x)) at h)
+  pub gather-fit : All StepFits (added_steps cell x) → All (StepsFit (leaf_steps leaves)) (take (i + 1) (enumerate_from 0 leaves))
+  gather-fit h = fits_next (leaf_steps leaves) (enumerate_from 0 leaves) i (i, x) within here fit (subst (λ c. All StepFits (added_steps c x)) at h)
 
 -- the steps of all leaves fit
-pub gather-all : (leaves : List Leaf) (n : ℕ) → n ≡ length leaves → All (StepsFit (leaf_steps leaves)) (take n (numbered 0 leaves)) → gathering_in leaves (Ok tt)
-gather-all leaves n is fit = subst (All (StepsFit (leaf_steps leaves))) (take_all n (numbered 0 leaves) (omega (arith, is, length-numbered 0 leaves))) fit
+pub gather-all : (leaves : List Leaf) (n : ℕ) → n ≡ length leaves → All (StepsFit (leaf_steps leaves)) (take n (enumerate_from 0 leaves)) → gathering_in leaves (Ok tt)
+gather-all leaves n is fit = subst (All (StepsFit (leaf_steps leaves))) (take_all n (enumerate_from 0 leaves) (omega (arith, is, length-enumerate_from 0 leaves))) fit
 
 -- the rows of places are those of leaves
 pub rows-few : (columns : ℕ) (leaves : List Leaf) (places : List ℕ) → All (λ l. l.row < 2 ^ 32) leaves → All (λ l. l.column < columns) leaves → ArePlaces columns leaves places → All (λ k. k / columns < 2 ^ 32) places

@@ -1,12 +1,13 @@
 -- Steps at a node or a profile, one after another, and those of leaves.
 use Rattle.std.proofs.Common.{ℕ, List, ◌++◌, All, Result, Ok, Err}
+use Rattle.std.specs.List.{enumerate_from}
 use Rattle.std.proofs.lemmas.List.Elements.{All-append}
 use Rattle.answers.specs.Answers.{IsSingle}
 use Rattle.answers.proofs.AnswerLemmas.{refused_by-single}
 use Rattle.frac128.specs.Steps.{Step, StepFits}
 use Rattle.frac128.proofs.FirstUnfitLemmas.{all_fit-single}
 use Rattle.frac128.proofs.StepRunLemmas.{first_unfit-more, first_unfit-following}
-use Rattle.sequence_data.specs.Steps.{gathering_in, fit_at, leaf_steps, numbered}
+use Rattle.sequence_data.specs.Steps.{gathering_in, fit_at, leaf_steps}
 use Rattle.sequence_data.specs.declared.stop.SeqStop.{SeqStop}
 use Rattle.sequence_data.specs.declared.stop.SeqStop.TheVariants as stops
 use Rattle.sequence_data.specs.declared.types.Leaf.{Leaf}
@@ -23,4 +24,4 @@ module _ (place : ℕ) (xs ys : List Step) where
 
 -- the steps of leaves have one answer
 pub gathering_in-single : (leaves : List Leaf) → IsSingle (gathering_in leaves)
-gathering_in-single leaves = refused_by-single (λ stop. stops.Range stop.0.1.place stop.1) _ (all_fit-single (leaf_steps leaves) (numbered 0 leaves))
+gathering_in-single leaves = refused_by-single (λ stop. stops.Range stop.0.1.place stop.1) _ (all_fit-single (leaf_steps leaves) (enumerate_from 0 leaves))

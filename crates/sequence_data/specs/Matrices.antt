@@ -1,5 +1,6 @@
 -- Numbers of cells as a matrix, row by row.
-use Rattle.std.specs.Prelude.{ℕ, ◌<◌, ◌≡◌, ◌+◌, ◌*◌, List, [], ◌∷◌}
+use Rattle.std.specs.Prelude.{ℕ, ◌<◌, ◌≡◌, ◌+◌, ◌*◌, List, map}
+use Rattle.std.specs.List.{zip}
 use Rattle.rational.specs.Rational.{ℚ}
 use Rattle.rational.specs.Sum.{entry_at}
 use Rattle.sequence_forms.specs.Lists.{Entry, listed_at}
@@ -21,9 +22,7 @@ IsInside rows columns c = (c.row < rows) × (c.column < columns)
 
 -- each cell with its number
 abbrev pub placed : List Cell → List ℚ → List Entry
-placed [] numbers = []
-placed (c ∷ cells) [] = []
-placed (c ∷ cells) (v ∷ numbers) = (c.row, c.column, v) ∷ placed cells numbers
+placed cells numbers = map (λ p. (p.0.row, p.0.column, p.1)) (zip cells numbers)
 
 -- a list has, row by row, the numbers that stand at each row and column
 abbrev pub HoldsNumbers : ℕ → ℕ → List Entry → List ℚ → Type 0

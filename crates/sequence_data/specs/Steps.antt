@@ -1,5 +1,6 @@
 -- The steps in which leaves go into the cells of a sequence form, leaf after leaf.
-use Rattle.std.specs.Prelude.{ℕ, suc, List, [], ◌∷◌, ◌++◌, take}
+use Rattle.std.specs.Prelude.{ℕ, List, [], ◌∷◌, ◌++◌, take}
+use Rattle.std.specs.List.{enumerate_from}
 use Rattle.answers.specs.Answers.{Answer, refused_by}
 use Rattle.rational.specs.Rational.{ℚ, ◌*ℚ◌}
 use Rattle.frac128.specs.FirstUnfit.{all_fit, all_steps_fit}
@@ -24,11 +25,6 @@ product_steps sum chance payoff = unfit Mul chance payoff ∷ unfit Add sum (cha
 abbrev pub added_steps : Cell → Leaf → List Step
 added_steps c l = unfit Add c.weight l.chance ∷ product_steps c.one l.chance l.one ++ product_steps c.two l.chance l.two
 
--- leaves with their numbers, from n on
-abbrev pub numbered : ℕ → List Leaf → List (ℕ × Leaf)
-numbered n [] = []
-numbered n (l ∷ leaves) = (n, l) ∷ numbered (suc n) leaves
-
 -- a numbered leaf goes into its cell, where the leaves before it are
 abbrev pub leaf_steps : List Leaf → (ℕ × Leaf) → List Step
 leaf_steps leaves n = added_steps (cell_at (take n.0 leaves) n.1.row n.1.column) n.1
@@ -37,4 +33,4 @@ leaf_steps leaves n = added_steps (cell_at (take n.0 leaves) n.1.row n.1.column)
 abbrev pub gathering_in : List Leaf → Answer SeqStop (Unit {0})
 gathering_in leaves =
     refused_by (λ stop. stops.Range stop.0.1.place stop.1)
-    (all_fit (leaf_steps leaves) (numbered 0 leaves))
+    (all_fit (leaf_steps leaves) (enumerate_from 0 leaves))

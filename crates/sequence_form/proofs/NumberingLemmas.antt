@@ -9,10 +9,10 @@ use Rattle.game_theory.specs.Behaviour.{is_own}
 use Rattle.game_theory.specs.Recall.{own_history}
 use Rattle.game_core.specs.Tree.{GameTree, IsGameTree}
 use Rattle.game_core.specs.TreeGame.{game_of_tree}
-use Rattle.game_theory.specs.OwnSets.{own_sets, own_numbers}
+use Rattle.game_theory.specs.OwnSets.{own_sets, numbers_with}
 use Rattle.game_theory.proofs.OwnSetLemmas.{is_own-decides}
 use Rattle.strategy_lists.proofs.ActionCountLemmas.{actions-below}
-use Rattle.strategy_lists.proofs.OwnNumberLemmas.{own_numbers-at, own_numbers-next, own_numbers-own, own_numbers-other}
+use Rattle.game_theory.proofs.IndexLemmas.{numbers_with-at, numbers_with-next, numbers_with-last, numbers_with-other}
 use Rattle.sequence_forms.specs.Sequences.{last_edge, history_before, sequence, sequence_before, side_of}
 use Rattle.sequence_forms.specs.Sides.{first, sequences}
 use Rattle.sequence_forms.proofs.SequenceLemmas.{history_before-cases, side_of-is}
@@ -25,33 +25,33 @@ use Rattle.sequence_form.specs.Sequences.{next_sequence, own_actions, AreFirsts,
 
 module _ (t : Tree) (i : ℕ) where
   -- ---- the place of an own set
-  own-at : (s : ℕ) → s < t.sets → t.owner s ≡ Some i → slice_get (own_sets t i) (length (own_numbers t.owner i s)) ≡ Some s
-  own-at s below own = own_numbers-at t.owner i s t.sets below own
+  own-at : (s : ℕ) → s < t.sets → t.owner s ≡ Some i → slice_get (own_sets t i) (length (numbers_with t.owner i s)) ≡ Some s
+  own-at s below own = numbers_with-at t.owner i s t.sets below own
 
-  own-is : (s : ℕ) → s < t.sets → t.owner s ≡ Some i → get_or (own_sets t i) (length (own_numbers t.owner i s)) 0 ≡ s
-  own-is s below own = get_or_from_slice_get (own_sets t i) (length (own_numbers t.owner i s)) s 0 (own-at s below own)
+  own-is : (s : ℕ) → s < t.sets → t.owner s ≡ Some i → get_or (own_sets t i) (length (numbers_with t.owner i s)) 0 ≡ s
+  own-is s below own = get_or_from_slice_get (own_sets t i) (length (numbers_with t.owner i s)) s 0 (own-at s below own)
 
-  own-within : (s : ℕ) → s < t.sets → t.owner s ≡ Some i → length (own_numbers t.owner i s) < length (own_sets t i)
-  own-within s below own = slice_get_within (own_sets t i) (length (own_numbers t.owner i s)) s (own-at s below own)
+  own-within : (s : ℕ) → s < t.sets → t.owner s ≡ Some i → length (numbers_with t.owner i s) < length (own_sets t i)
+  own-within s below own = slice_get_within (own_sets t i) (length (numbers_with t.owner i s)) s (own-at s below own)
 
   -- ---- the next sequence
   -- with one more set
   pub next-more : (n : ℕ) → n < t.sets → next_sequence t i (suc n) ≡ next_sequence t i n + own_actions t i n
-  next-more n below = ap (λ xs. first (side_of t i) (length xs)) (own_numbers-next t.owner i n) ∙ go (is_own t i n) (is_own-decides t i n)
+  next-more n below = ap (λ xs. first (side_of t i) (length xs)) (numbers_with-next t.owner i n) ∙ go (is_own t i n) (is_own-decides t i n)
     where
-      go : (b : Bool) → Decides b (t.owner n ≡ Some i) → first (side_of t i) (length (own_numbers t.owner i n ++ (if b then n ∷ [] else []))) ≡ next_sequence t i n + (if b then t.actions n else 0)
+      go : (b : Bool) → Decides b (t.owner n ≡ Some i) → first (side_of t i) (length (numbers_with t.owner i n ++ (if b then n ∷ [] else []))) ≡ next_sequence t i n + (if b then t.actions n else 0)
       go true d =
-          let long : length (own_numbers t.owner i n ++ n ∷ []) ≡ suc (length (own_numbers t.owner i n)) = length_push (own_numbers t.owner i n) n ∙ omega arith in
+          let long : length (numbers_with t.owner i n ++ n ∷ []) ≡ suc (length (numbers_with t.owner i n)) = length_push (numbers_with t.owner i n) n ∙ omega arith in
           ap (first (side_of t i)) long ∙ ap (λ s. next_sequence t i n + t.actions s) (own-is n below (d.0 refl))
-      go false d = ap (λ xs. first (side_of t i) (length xs)) (append-nil (own_numbers t.owner i n)) ∙ omega arith
+      go false d = ap (λ xs. first (side_of t i) (length xs)) (append-nil (numbers_with t.owner i n)) ∙ omega arith
 
   -- the sequence of an own set's action
   pub sequence-is : (s a : ℕ) → is_game_tree t → s < t.sets → t.owner s ≡ Some i → sequence t i (Some (s, a)) ≡ next_sequence t i s + a
-  sequence-is s a w below own = ap (λ x. sequence t i (Some (x, a))) (sym (own-is s below own)) ∙ (last_sequences t i w).numbered (length (own_numbers t.owner i s)) a (own-within s below own)
+  sequence-is s a w below own = ap (λ x. sequence t i (Some (x, a))) (sym (own-is s below own)) ∙ (last_sequences t i w).numbered (length (numbers_with t.owner i s)) a (own-within s below own)
 
   -- the sequence before an own set
   pub before-below : (s : ℕ) → is_game_tree t → s < t.sets → t.owner s ≡ Some i → sequence_before t i s < sequences (side_of t i)
-  before-below s w below own = subst (λ x. sequence_before t i x < sequences (side_of t i)) (own-is s below own) (side_of-is t i w (length (own_numbers t.owner i s)) (own-within s below own))
+  before-below s w below own = subst (λ x. sequence_before t i x < sequences (side_of t i)) (own-is s below own) (side_of-is t i w (length (numbers_with t.owner i s)) (own-within s below own))
 
   -- ---- a list of the next sequences
   pub firsts-length : (firsts : List ℕ) → AreFirsts t i firsts → length firsts ≡ suc t.sets
@@ -85,22 +85,22 @@ module _ (t : Tree) (i : ℕ) where
   next-push n below = let one : n + 1 ≡ suc n = omega arith in ap (next_sequence t i) one ∙ next-more n below
 
   -- the own sets with one more
-  own-next : (n : ℕ) → is_own t i n ≡ true → own_numbers t.owner i (n + 1) ≡ own_numbers t.owner i n ++ n ∷ []
-  own-next n own = ap (own_numbers t.owner i) (add-one n) ∙ own_numbers-own t.owner i n ((is_own-decides t i n).0 own)
+  own-next : (n : ℕ) → is_own t i n ≡ true → numbers_with t.owner i (n + 1) ≡ numbers_with t.owner i n ++ n ∷ []
+  own-next n own = ap (numbers_with t.owner i) (add-one n) ∙ numbers_with-last t.owner i n ((is_own-decides t i n).0 own)
 
-  other-next : (n : ℕ) → is_own t i n ≡ false → own_numbers t.owner i (n + 1) ≡ own_numbers t.owner i n
-  other-next n other = ap (own_numbers t.owner i) (add-one n) ∙ own_numbers-other t.owner i n (λ own. cc ((is_own-decides t i n).1 own, other))
+  other-next : (n : ℕ) → is_own t i n ≡ false → numbers_with t.owner i (n + 1) ≡ numbers_with t.owner i n
+  other-next n other = ap (numbers_with t.owner i) (add-one n) ∙ numbers_with-other t.owner i n (λ own. cc ((is_own-decides t i n).1 own, other))
 
-  pub rows-own : (n : ℕ) → is_own t i n ≡ true → map (own_set_row t i) (own_numbers t.owner i (n + 1)) ≡ map (own_set_row t i) (own_numbers t.owner i n) ++ own_set_row t i n ∷ []
-  rows-own n own = ap (map (own_set_row t i)) (own-next n own) ∙ map-append (own_set_row t i) (own_numbers t.owner i n) (n ∷ [])
+  pub rows-own : (n : ℕ) → is_own t i n ≡ true → map (own_set_row t i) (numbers_with t.owner i (n + 1)) ≡ map (own_set_row t i) (numbers_with t.owner i n) ++ own_set_row t i n ∷ []
+  rows-own n own = ap (map (own_set_row t i)) (own-next n own) ∙ map-append (own_set_row t i) (numbers_with t.owner i n) (n ∷ [])
 
-  pub rows-other : (n : ℕ) → is_own t i n ≡ false → map (own_set_row t i) (own_numbers t.owner i (n + 1)) ≡ map (own_set_row t i) (own_numbers t.owner i n)
+  pub rows-other : (n : ℕ) → is_own t i n ≡ false → map (own_set_row t i) (numbers_with t.owner i (n + 1)) ≡ map (own_set_row t i) (numbers_with t.owner i n)
   rows-other n other = ap (map (own_set_row t i)) (other-next n other)
 
-  pub count-own : (n : ℕ) → is_own t i n ≡ true → length (own_numbers t.owner i (n + 1)) ≡ length (own_numbers t.owner i n) + 1
-  count-own n own = ap length (own-next n own) ∙ length_push (own_numbers t.owner i n) n
+  pub count-own : (n : ℕ) → is_own t i n ≡ true → length (numbers_with t.owner i (n + 1)) ≡ length (numbers_with t.owner i n) + 1
+  count-own n own = ap length (own-next n own) ∙ length_push (numbers_with t.owner i n) n
 
-  pub count-other : (n : ℕ) → is_own t i n ≡ false → length (own_numbers t.owner i (n + 1)) ≡ length (own_numbers t.owner i n)
+  pub count-other : (n : ℕ) → is_own t i n ≡ false → length (numbers_with t.owner i (n + 1)) ≡ length (numbers_with t.owner i n)
   count-other n other = ap length (other-next n other)
 
 -- ---- they fit 32 bits

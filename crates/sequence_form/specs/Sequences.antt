@@ -3,7 +3,7 @@ use Rattle.std.specs.Prelude.{ℕ, suc, if◌then◌else◌, List, length, map, 
 use Rattle.std.specs.List.{range_with_len}
 use Rattle.game_theory.specs.Trees.{Tree}
 use Rattle.game_theory.specs.Behaviour.{is_own}
-use Rattle.game_theory.specs.OwnSets.{own_sets, own_numbers}
+use Rattle.game_theory.specs.OwnSets.{own_sets, numbers_with}
 use Rattle.sequence_forms.specs.Sequences.{sequence, sequence_before, side_of}
 use Rattle.sequence_forms.specs.Sides.{first, sequences}
 use Rattle.sequence_data.specs.Data.{SideData}
@@ -12,7 +12,7 @@ use Rattle.sequence_data.specs.declared.types.SetRow.{SetRow}
 -- ---- the numbering
 -- the sequence that comes next after those of player i's own sets below n
 abbrev pub next_sequence : Tree → ℕ → ℕ → ℕ
-next_sequence t i n = first (side_of t i) (length (own_numbers t.owner i n))
+next_sequence t i n = first (side_of t i) (length (numbers_with t.owner i n))
 
 -- so many sequences set s gives player i
 abbrev pub own_actions : Tree → ℕ → ℕ → ℕ

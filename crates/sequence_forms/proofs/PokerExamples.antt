@@ -4,7 +4,6 @@ use Rattle.lists.proofs.NumberLemmas.{below_two}
 use borrow.Author.Count.{below_none, below_more}
 use Rattle.rational.specs.Gcd.{gcd}
 use Rattle.rational.specs.Rational.{is_lowest, frac, whole, ◌+ℚ◌, ◌*ℚ◌, ◌≤ℚ◌, neg_ℚ, inv_ℚ, zero_ℚ}
-use Rattle.rational.specs.Tests.{eq_ℚ}
 use Rattle.rational.specs.Sum.{sum_to}
 use Rattle.game_theory.specs.TreeExamples.{one_card_poker, bluffs}
 use Rattle.game_theory.proofs.PokerExamples.{poker-worth}

@@ -1,22 +1,15 @@
 -- A set has fewer actions than the tree has nodes; and the numbers of actions of a player's own sets, one after another.
-use Rattle.std.proofs.Common.{ℕ, zero, suc, ◌<◌, ◌≤◌, ◌^◌, ◌≡◌, inl, inr, Bool, true, false, Decides, Some, None, List, [], ◌∷◌, ◌++◌, length, map, get_or, slice_get, take, refl, sym, ap, subst, ◌∙◌, arith}
-use Rattle.std.specs.Prelude.{if◌then◌else◌}
+use Rattle.std.proofs.Common.{ℕ, zero, suc, ◌<◌, ◌≤◌, ◌^◌, ◌≡◌, inl, inr, Some, None, List, [], ◌∷◌, ◌++◌, length, map, get_or, slice_get, take, sym, ap, subst, ◌∙◌, arith}
 use Rattle.std.proofs.Math.Seq.{take-suc, take-length}
 use Rattle.std.proofs.lemmas.Bool.{cases_lt}
 use Rattle.std.proofs.lemmas.List.{length-append, length_push, get_or-map, map-append}
+use Rattle.std.proofs.lemmas.List.FromFn.{length-map-range_with_len}
 use Rattle.std.proofs.lemmas.Option.{none-some, slice_get_within, slice_get-get_or, get_or_from_slice_get}
-use Rattle.game_theory.proofs.OwnSetLemmas.{is_index-decides}
 use Rattle.game_core.specs.declared.tree.Node.{Node}
-use Rattle.game_theory.specs.Behaviour.{is_index}
 use Rattle.game_theory.specs.OwnSets.{own_sets}
-use Rattle.game_core.specs.Tree.{GameTree, IsGameTree, InformationSet, OpenBranch, AreInPrefixOrder, action_count, branches_after, members_from}
+use Rattle.game_core.specs.Tree.{GameTree, IsGameTree, InformationSet, OpenBranch, AreInPrefixOrder, action_count, branches_after, members_of}
 use Rattle.game_core.specs.TreeGame.{game_of_tree}
-use Rattle.strategy_lists.proofs.OwnNumberLemmas.{own_numbers-length}
-
--- a node has a place for each action
-length-places : (node a n : ℕ) → length (branches_after (Some node) a n) ≡ n
-length-places node a zero = refl
-length-places node a (suc n) = ap suc (length-places node (suc a) n)
+use Rattle.game_theory.proofs.IndexLemmas.{numbers_with-length, numbers_with-tell}
 
 -- there is a node for each place that is free
 places-taken : (sets : List InformationSet) (k : ℕ) (nodes : List Node) (free : List OpenBranch) → AreInPrefixOrder sets k nodes free [] → length free ≤ length nodes
@@ -26,19 +19,16 @@ places-taken sets k (node ∷ nodes) (place ∷ free) h =
     let later = places-taken sets (suc k) nodes (branches_after (Some k) 0 (action_count sets node.set) ++ free) h.1 in
     omega (arith, length-append (branches_after (Some k) 0 (action_count sets node.set)) free)
 
--- a set with a node has fewer actions than there are nodes
-actions-few : (sets : List InformationSet) (k m s : ℕ) (nodes : List Node) (free : List OpenBranch) → AreInPrefixOrder sets k nodes free [] → 0 < length (members_from m s nodes) → action_count sets (Some s) < length nodes
-actions-few sets k m s [] free h some = absurd (omega arith)
-actions-few sets k m s (node ∷ nodes) [] h some = absurd h
-actions-few sets k m s (node ∷ nodes) (place ∷ free) h some =
-    go (is_index node.set s) (is_index-decides node.set s) (actions-few sets (suc k) (suc m) s nodes (branches_after (Some k) 0 (action_count sets node.set) ++ free) h.1) some
-  where
-    go : (b : Bool) → Decides b (node.set ≡ Some s) → (0 < length (members_from (suc m) s nodes) → action_count sets (Some s) < length nodes) → 0 < length (if b then m ∷ members_from (suc m) s nodes else members_from (suc m) s nodes) → action_count sets (Some s) < suc (length nodes)
-    go true d later some =
-        let taken = places-taken sets (suc k) nodes (branches_after (Some k) 0 (action_count sets node.set) ++ free) h.1 in
-        let same : action_count sets node.set ≡ action_count sets (Some s) = ap (action_count sets) (d.0 refl) in
-        omega (arith, length-append (branches_after (Some k) 0 (action_count sets node.set)) free, length-places k 0 (action_count sets node.set))
-    go false d later some = let few = later some in omega arith
+-- a node has fewer actions than there are nodes
+actions-few : (sets : List InformationSet) (k p : ℕ) (nodes : List Node) (free : List OpenBranch) → AreInPrefixOrder sets k nodes free [] → p < length nodes → action_count sets (get_or (map (λ node. node.set) nodes) p None) < length nodes
+actions-few sets k p [] free h below = absurd (omega arith)
+actions-few sets k p (node ∷ nodes) [] h below = absurd h
+actions-few sets k zero (node ∷ nodes) (place ∷ free) h below =
+    let taken = places-taken sets (suc k) nodes (branches_after (Some k) 0 (action_count sets node.set) ++ free) h.1 in
+    omega (arith, length-append (branches_after (Some k) 0 (action_count sets node.set)) free, length-map-range_with_len {X = OpenBranch} (λ a. (Some k, a)) 0 (action_count sets node.set))
+actions-few sets k (suc p) (node ∷ nodes) (place ∷ free) h below =
+    let few = actions-few sets (suc k) p nodes (branches_after (Some k) 0 (action_count sets node.set) ++ free) h.1 (omega arith) in
+    omega arith
 
 -- the number of a set's actions is that of the game
 pub actions-at : (t : GameTree) (s : ℕ) (set : InformationSet) → s < length t.sets → set ≡ get_or t.sets s set → action_count t.sets (Some s) ≡ length set.actions
@@ -49,8 +39,9 @@ pub actions-below : (t : GameTree) (s : ℕ) → IsGameTree t → s < length t.s
 actions-below t s valid below =
     let set = get_or t.sets s (record { owner = None; label = 0; name = []; actions = []; members = [] }) in
     let fits = valid.sets_fit s set (slice_get-get_or t.sets s _ below) in
-    let some : 0 < length (members_from 0 s t.nodes) = subst (λ xs. 0 < length xs) fits.members_are fits.some_member in
-    actions-few t.sets 0 0 s t.nodes _ valid.in_prefix_order some
+    let some : 0 < length (members_of t.nodes s) = subst (λ xs. 0 < length xs) fits.members_are fits.some_member in
+    let node = numbers_with-tell (game_of_tree t).set s (length t.nodes) 0 _ (slice_get-get_or (members_of t.nodes s) 0 0 some) in
+    subst (λ named. action_count t.sets named < length t.nodes) node.1 (actions-few t.sets 0 _ t.nodes _ valid.in_prefix_order node.0)
 
 -- it fits 32 bits
 pub actions-fit : (t : GameTree) (s : ℕ) (set : InformationSet) → IsGameTree t → s < length t.sets → set ≡ get_or t.sets s set → length set.actions < 2 ^ 32
@@ -58,7 +49,7 @@ actions-fit t s set valid below is = omega (arith, actions-below t s valid below
 
 -- a player has fewer own sets than a place can count
 pub own_sets-few : (t : GameTree) (i : ℕ) → IsGameTree t → length (own_sets (game_of_tree t) i) < 2 ^ 32
-own_sets-few t i valid = omega (arith, own_numbers-length (game_of_tree t).owner i (length t.sets), valid.few_sets, valid.few_nodes)
+own_sets-few t i valid = omega (arith, numbers_with-length (game_of_tree t).owner i (length t.sets), valid.few_sets, valid.few_nodes)
 
 -- the numbers of actions with one more set, and of all sets
 module _ (actions : ℕ → ℕ) (sets counts : List ℕ) (h : counts ≡ map actions (take (length counts) sets)) where

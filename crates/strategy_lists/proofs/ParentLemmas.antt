@@ -1,5 +1,5 @@
 -- Each node of a tree but the root has a parent, which stands before it.
-use Rattle.std.proofs.Common.{ℕ, zero, suc, ◌<◌, ◌≡◌, Option, Some, None, List, [], ◌∷◌, ◌++◌, length, get_or, refl, sym, ap, subst, ◌∙◌, arith}
+use Rattle.std.proofs.Common.{ℕ, zero, suc, ◌+◌, ◌<◌, ◌≡◌, Option, Some, None, List, [], ◌∷◌, ◌++◌, length, get_or, refl, sym, ap, subst, ◌∙◌, arith}
 use Rattle.std.specs.Prelude.{IsSome, MatchOption}
 use Rattle.std.proofs.lemmas.List.{get_or-map}
 use Rattle.std.proofs.lemmas.Option.{MatchOption-at_none, MatchOption-at_some}
@@ -16,7 +16,7 @@ AreAtNodes (place ∷ places) = IsSome place.0 × AreAtNodes places
 -- the places of a node's actions are at a node
 AreAtNodes-more : (node a n : ℕ) (free : List OpenBranch) → AreAtNodes free → AreAtNodes (branches_after (Some node) a n ++ free)
 AreAtNodes-more node a zero free h = h
-AreAtNodes-more node a (suc n) free h = (refl, AreAtNodes-more node (suc a) n free h)
+AreAtNodes-more node a (suc n) free h = (refl, AreAtNodes-more node (a + 1) n free h)
 
 -- nodes that hang at nodes have parents
 parent-later : (sets : List InformationSet) (k : ℕ) (nodes : List Node) (free rest : List OpenBranch) (j : ℕ) (past : Node) → AreInPrefixOrder sets k nodes free rest → AreAtNodes free → j < length nodes → IsSome (get_or nodes j past).parent

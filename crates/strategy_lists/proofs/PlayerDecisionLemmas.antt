@@ -6,7 +6,7 @@ use Rattle.std.proofs.lemmas.List.{length-map, length-set, length_push, get_or-s
 use Rattle.std.proofs.lemmas.List.Elements.{All-map}
 use Rattle.std.proofs.lemmas.Option.{none-some, same_Some, slice_get_within, slice_get-get_or, slice_get-map, slice_get_read, get_or_from_slice_get}
 use Rattle.game_theory.specs.OwnSets.{own_sets, own_counts, Chooses, NobodyChooses}
-use Rattle.lists.proofs.ElementLemmas.{element}
+use Rattle.lists.proofs.ElementLemmas.{element, slice_get-longer, slice_get-push_cases}
 use Rattle.game_theory.specs.Trees.{Tree, IsTree}
 use Rattle.game_theory.specs.Recall.{own_history}
 use Rattle.choice_lists.specs.declared.decision.Decision.{Decision}
@@ -14,7 +14,6 @@ use Rattle.choice_lists.specs.declared.decision.Edge.{Edge}
 use Rattle.choice_lists.specs.Reduced.{AreLinked, ComesFrom}
 use Rattle.strategy_lists.specs.Decisions.{history_by, IsDecisionAt, AreDecisions, AreDecisionsOfAll}
 use Rattle.strategy_lists.specs.Made.{mover, IsEdgeTo, LeadsTo, IsMadeAt, HasTaken}
-use Rattle.strategy_lists.proofs.OwnNumberLemmas.{slice_get-push, slice_get-push_cases}
 use Rattle.strategy_lists.proofs.MoveLemmas.{move_at, mover-move, mover-within}
 use Rattle.strategy_lists.proofs.ReducedListLemmas.{own_set-place, own_set-tell}
 
@@ -108,7 +107,7 @@ module _ (t : Tree) (n i : ℕ) (numbers : List ℕ) (latest : List (Option ℕ)
 -- an earlier one comes from the same as before
 ComesFrom-push : (decisions : List Decision) (last : Decision) (j : ℕ) (before : Option Edge) → ComesFrom decisions j before → ComesFrom (decisions ++ last ∷ []) j before
 ComesFrom-push decisions last j None comes = tt
-ComesFrom-push decisions last j (Some edge) comes = (comes.0, comes.1, slice_get-push decisions last comes.1 edge.decision comes.2, comes.3)
+ComesFrom-push decisions last j (Some edge) comes = (comes.0, comes.1, slice_get-longer decisions (last ∷ []) edge.decision comes.1 comes.2, comes.3)
 
 -- the history by an edge from a decision stays
 history_by-push : (t : Tree) (i : ℕ) (nodes : List ℕ) (node : ℕ) (decisions : List Decision) (j : ℕ) (before : Option Edge) → ComesFrom decisions j before → length nodes ≡ length decisions → history_by t i (nodes ++ node ∷ []) before ≡ history_by t i nodes before
@@ -133,11 +132,11 @@ AreMade-more : (t : Tree) (n i : ℕ) (numbers : List ℕ) (latest : List (Optio
 AreMade-more t n i numbers latest decisions last below made h = record {
   nodes = h.nodes ++ n ∷ [];
   one_for_each = length_push h.nodes n ∙ ap (λ m. m + 1) h.one_for_each ∙ sym (length_push decisions last);
-  are_decisions = λ j k d at_d at_k. both j k d (slice_get-push_cases decisions last d j at_d) (slice_get-push_cases h.nodes n k j at_k);
-  all = λ k before own. let found = h.all k before own in (found.0, slice_get-push decisions last found.0 (get_or numbers k 0) found.1, stays (get_or numbers k 0) k found.0 found.1 found.2);
-  come_from = λ j d at_d. elim (slice_get-push_cases decisions last d j at_d) [
+  are_decisions = λ j k d at_d at_k. both j k d (slice_get-push_cases decisions last j d at_d) (slice_get-push_cases h.nodes n j k at_k);
+  all = λ k before own. let found = h.all k before own in (found.0, slice_get-longer decisions (last ∷ []) (get_or numbers k 0) found.0 found.1, stays (get_or numbers k 0) k found.0 found.1 found.2);
+  come_from = λ j d at_d. elim (slice_get-push_cases decisions last j d at_d) [
     | inl early ↦ ComesFrom-push decisions last j d.before (h.come_from j d early)
-    | inr end ↦ subst (λ x. ComesFrom (decisions ++ last ∷ []) x d.before) (sym end.0) (subst (λ x. ComesFrom (decisions ++ last ∷ []) (length decisions) x.before) end.1 (ComesFrom-push decisions last (length decisions) last.before last_comes))
+    | inr end ↦ subst (λ x. ComesFrom (decisions ++ last ∷ []) x d.before) (sym end.0) (subst (λ x. ComesFrom (decisions ++ last ∷ []) (length decisions) x.before) (sym end.1) (ComesFrom-push decisions last (length decisions) last.before last_comes))
   ];
   latest_within = λ s j own at. let within = h.latest_within s j own at in omega (arith, length_push decisions last);
 }
@@ -151,11 +150,11 @@ AreMade-more t n i numbers latest decisions last below made h = record {
     at_end : IsDecisionAt t i (h.nodes ++ n ∷ []) last n
     at_end = IsDecisionAt-push t i h.nodes n decisions (length decisions) n last last_comes h.one_for_each (made-decision t n i numbers latest decisions h last below made)
 
-    both : (j k : ℕ) (d : Decision) → (slice_get decisions j ≡ Some d) ⊎ ((j ≡ length decisions) × (last ≡ d)) → (slice_get h.nodes j ≡ Some k) ⊎ ((j ≡ length h.nodes) × (n ≡ k)) → IsDecisionAt t i (h.nodes ++ n ∷ []) d k
+    both : (j k : ℕ) (d : Decision) → (slice_get decisions j ≡ Some d) ⊎ ((j ≡ length decisions) × (d ≡ last)) → (slice_get h.nodes j ≡ Some k) ⊎ ((j ≡ length h.nodes) × (k ≡ n)) → IsDecisionAt t i (h.nodes ++ n ∷ []) d k
     both j k d (inl early) (inl node) = stays j k d early (h.are_decisions j k d early node)
     both j k d (inl early) (inr node) = let within = slice_get_within decisions j d early in absurd (omega (arith, h.one_for_each, node.0))
     both j k d (inr end) (inl node) = let within = slice_get_within h.nodes j k node in absurd (omega (arith, h.one_for_each, end.0))
-    both j k d (inr end) (inr node) = subst (λ x. IsDecisionAt t i (h.nodes ++ n ∷ []) d x) node.1 (subst (λ x. IsDecisionAt t i (h.nodes ++ n ∷ []) x n) end.1 at_end)
+    both j k d (inr end) (inr node) = subst (λ x. IsDecisionAt t i (h.nodes ++ n ∷ []) d x) (sym node.1) (subst (λ x. IsDecisionAt t i (h.nodes ++ n ∷ []) x n) (sym end.1) at_end)
 
 -- ---- one more node
 -- the numbers of the decisions at the nodes below n, and one more

@@ -4,7 +4,7 @@ use Rattle.std.proofs.lemmas.Bool.{cases_lt}
 use Rattle.std.proofs.lemmas.List.{length-map, get_or-map}
 use Rattle.std.proofs.lemmas.List.Elements.{All-weaker}
 use Rattle.std.proofs.lemmas.Option.{none-some, same_Some, slice_get_within, slice_get-get_or, get_or_from_slice_get}
-use Rattle.game_theory.specs.OwnSets.{own_sets, own_counts, own_numbers}
+use Rattle.game_theory.specs.OwnSets.{own_sets, own_counts, numbers_with}
 use Rattle.game_theory.proofs.OwnSetLemmas.{own_sets-tell}
 use Rattle.lists.proofs.ElementLemmas.{element, all_at}
 use Rattle.game_theory.specs.Trees.{Tree}
@@ -16,7 +16,7 @@ use Rattle.choice_lists.specs.declared.decision.Decision.{Decision}
 use Rattle.choice_lists.specs.declared.decision.Edge.{Edge}
 use Rattle.choice_lists.specs.Reduced.{ComesFrom, IsLedTo, IsReachedWithin, IsPlaceReached, IsReducedBy, AreReducedBy}
 use Rattle.strategy_lists.specs.Decisions.{history_by, IsDecisionAt, AreDecisions}
-use Rattle.strategy_lists.proofs.OwnNumberLemmas.{own_numbers-at, own_numbers-tell, own_numbers-place}
+use Rattle.game_theory.proofs.IndexLemmas.{numbers_with-at, numbers_with-tell, numbers_with-place}
 
 -- ---- lists
 -- a value of the element at a place
@@ -35,15 +35,15 @@ choice_at-place (set ∷ sets) (choice ∷ choices) (suc place) s once h =
 -- ---- own sets by their places
 -- an own set stands at a place
 own_set-at : (t : Tree) (i s : ℕ) → s < t.sets → t.owner s ≡ Some i → (place : ℕ) × (slice_get (own_sets t i) place ≡ Some s)
-own_set-at t i s below own = (length (own_numbers t.owner i s), own_numbers-at t.owner i s t.sets below own)
+own_set-at t i s below own = (length (numbers_with t.owner i s), numbers_with-at t.owner i s t.sets below own)
 
 -- what stands at a place is an own set
 pub own_set-tell : (t : Tree) (i place s : ℕ) → slice_get (own_sets t i) place ≡ Some s → (s < t.sets) × (t.owner s ≡ Some i)
-own_set-tell t i place s h = let r = own_numbers-tell t.owner i t.sets place s h in (r.0, r.1)
+own_set-tell t i place s h = let r = numbers_with-tell t.owner i t.sets place s h in (r.0, r.1)
 
 -- an own set stands at one place
 pub own_set-place : (t : Tree) (i s j l : ℕ) → slice_get (own_sets t i) j ≡ Some s → slice_get (own_sets t i) l ≡ Some s → j ≡ l
-own_set-place t i s j l h g = own_numbers-place t.owner i t.sets j l s h g
+own_set-place t i s j l h g = numbers_with-place t.owner i t.sets j l s h g
 
 -- a choice list gives the own set at a place the choice there
 choice-at_set : (t : Tree) (i : ℕ) (choices : List ℕ) (place s : ℕ) → slice_get (own_sets t i) place ≡ Some s → choice_at (own_sets t i) choices s ≡ get_or choices place 0

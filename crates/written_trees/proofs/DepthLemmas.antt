@@ -2,10 +2,9 @@
 use Rattle.std.proofs.Common.{◌≡◌, ℕ, zero, suc, ◌<◌, ◌≤◌, List, [], ◌∷◌, ◌++◌, length, Option, Some, None, inl, inr, refl, sym, ap, ◌∙◌, subst, length-append, arith}
 use Rattle.std.proofs.lemmas.Bool.{cases_lt}
 use Rattle.std.proofs.lemmas.Option.{slice_get_within}
-use Rattle.lists.proofs.ElementLemmas.{slice_get-end}
+use Rattle.lists.proofs.ElementLemmas.{slice_get-end, slice_get-longer}
 use Rattle.game_core.specs.declared.tree.Node.{Node}
 use Rattle.game_core.specs.Tree.{LiesBelowRoot, most_depth}
-use Rattle.written_trees.proofs.ListLemmas.{slice_get-longer}
 
 -- a node stays where it lies when others come
 pub lies_longer : (nodes more : List Node) (d k : ℕ) → LiesBelowRoot nodes d k → LiesBelowRoot (nodes ++ more) d k

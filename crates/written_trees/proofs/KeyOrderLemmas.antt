@@ -7,10 +7,10 @@ use Rattle.std.proofs.lemmas.List.Sums.{fold-append}
 use Rattle.std.proofs.lemmas.Map.Views.{Contains-from_any}
 use Rattle.std.proofs.lemmas.Option.{same_Some, slice_get_within, slice_get-get_or, get_or_from_slice_get}
 use Rattle.indexmap.specs.IndexSet.{insert_key, insert_all}
-use Rattle.lists.proofs.ElementLemmas.{slice_get-end}
+use Rattle.lists.proofs.ElementLemmas.{slice_get-end, slice_get-longer, slice_get-push_cases}
 use Rattle.written_trees.specs.Described.{IsFirstUse, AreFirstUses, Names}
 use Rattle.written_trees.proofs.InsertedKeyLemmas.{insert_key-known, insert_key-new, slice_get-found}
-use Rattle.written_trees.proofs.ListLemmas.{at_end, slice_get-longer, slice_get-push_cases}
+use Rattle.written_trees.proofs.ListLemmas.{at_end}
 
 -- ---- elements and their places
 -- an element stands at some place

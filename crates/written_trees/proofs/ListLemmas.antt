@@ -11,22 +11,6 @@ at_end {A} P none more list = go [] none list
     go front h [] = subst P (sym (append-nil front)) h
     go front h (one ∷ rest) = subst P (append_assoc front (one ∷ []) rest) (go (front ++ one ∷ []) (more front one h) rest)
 
--- an element stays where others follow
-pub slice_get-longer : {A : Type 0} (xs ys : List A) (k : ℕ) (x : A) → slice_get xs k ≡ Some x → slice_get (xs ++ ys) k ≡ Some x
-slice_get-longer [] ys k x e = cc
-slice_get-longer (z ∷ xs) ys zero x e = e
-slice_get-longer (z ∷ xs) ys (suc k) x e = slice_get-longer xs ys k x e
-
--- an element stood there before, or is the one at the end
-pub slice_get-push_cases : {A : Type 0} (xs : List A) (y : A) (k : ℕ) (x : A) → slice_get (xs ++ y ∷ []) k ≡ Some x → (slice_get xs k ≡ Some x) ⊎ ((k ≡ length xs) × (x ≡ y))
-slice_get-push_cases [] y zero x e = inr (refl, sym (same_Some _ _ e))
-slice_get-push_cases [] y (suc k) x e = cc
-slice_get-push_cases (z ∷ xs) y zero x e = inl e
-slice_get-push_cases (z ∷ xs) y (suc k) x e = elim (slice_get-push_cases xs y k x e) [
-  | inl h ↦ inl h
-  | inr h ↦ inr (ap suc h.0, h.1)
-]
-
 -- an element stood there before a write, or is what was written
 pub slice_get-set_cases : {A : Type 0} (xs : List A) (i : ℕ) (y : A) (k : ℕ) (x : A) → slice_get (slice_set xs i y) k ≡ Some x → ((k ≡ i → ⊥) × (slice_get xs k ≡ Some x)) ⊎ ((k ≡ i) × (x ≡ y))
 slice_get-set_cases [] i y k x e = cc

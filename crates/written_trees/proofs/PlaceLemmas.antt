@@ -1,5 +1,5 @@
 -- The places that branchings leave free, and nodes in prefix order with one more.
-use Rattle.std.proofs.Common.{◌≡◌, ℕ, zero, suc, ◌+◌, ◌-◌, ◌<◌, nat_lt, Bool, true, false, cond, List, [], ◌∷◌, ◌++◌, length, All, Some, refl, sym, ap, ◌∙◌, arith}
+use Rattle.std.proofs.Common.{◌≡◌, ℕ, zero, suc, ◌+◌, ◌-◌, ◌<◌, nat_lt, Bool, true, false, cond, List, [], ◌∷◌, ◌++◌, length, All, Some, refl, sym, ap, ◌∙◌, add-one, arith}
 use Rattle.std.proofs.lemmas.Bool.Decides.{nat_tests}
 use Rattle.std.proofs.lemmas.List.Elements.{All-head, All-tail}
 use Rattle.game_core.specs.declared.tree.Node.{Node}
@@ -9,7 +9,7 @@ use Rattle.written_trees.specs.Building.{Branching, open_branches, take_branch, 
 -- ---- open branches
 -- the first open branch, and those that are free when it is taken
 pub open_branches-take : (b : Branching) (rest : List Branching) → b.next < b.count → open_branches (b ∷ rest) ≡ (b.node, b.next) ∷ open_branches (take_branch b rest)
-open_branches-take b rest lt = rw more (go (nat_lt (suc b.next) b.count) refl)
+open_branches-take b rest lt = rw (more, add-one b.next) (go (nat_lt (suc b.next) b.count) refl)
   where
     more : b.count - b.next ≡ suc (b.count - suc b.next)
     more = omega arith

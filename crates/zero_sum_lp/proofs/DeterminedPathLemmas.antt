@@ -11,7 +11,7 @@ use Rattle.linear_systems.specs.Rows.{key, HasDistinctVariables, Alike, IsLexico
 use Rattle.zero_sum_lp.specs.Paths.{LinearProgram, IsLinearProgram, IsEntering, IsOptimal, IsPathPivot, IsAfter}
 use Rattle.linear_systems.proofs.LexLemmas.{lex_same}
 use Rattle.linear_systems.proofs.RowLemmas.{key_alike}
-use Rattle.linear_systems.proofs.AgreementLemmas.{alike_sym, alike_trans, alike_pivot, alike_lex_row}
+use Rattle.linear_systems.proofs.AgreementLemmas.{alike_both, alike_trans, alike_pivot, alike_lex_row}
 use Rattle.linear_systems.proofs.ReachedTableauLemmas.{reached_alike}
 use Rattle.linear_systems.proofs.LexRowLemmas.{lex_row_once, below_cases}
 use Rattle.zero_sum_lp.proofs.PathBeginLemmas.{start_on_path}
@@ -57,10 +57,10 @@ step_once g t t' u u' p x y w a b =
     let rl : a.row < g.rated = a.leaving.within in
     let same_c : a.column ≡ b.column = entering_once g.rated t' a.column b.column y.reached.proper (alike_entering g.rated t t' a.column (omega arith) w a.entering) b.entering in
     let same_r : a.row ≡ b.row = lex_row_once g.rated g.start.basic t' b.column a.row b.row (subst (λ c. IsLexicographicRow g.rated g.rated g.start.basic t' c a.row) same_c (alike_lex_row g.rated g.rated g.start.basic t t' a.column a.row (omega arith) a.entering.column w a.leaving)) b.leaving in
-    alike_trans u (pivot t a.row a.column) u' (alike_sym (pivot t a.row a.column) u a.turned) (alike_trans (pivot t a.row a.column) (pivot t' a.row a.column) u' (alike_pivot t t' a.row a.column (omega arith) a.entering.column w) (subst₂ (λ r c. Alike (pivot t' r c) u') (sym same_r) (sym same_c) b.turned))
+    alike_both (pivot t a.row a.column) u u' a.turned (alike_trans (pivot t a.row a.column) (pivot t' a.row a.column) u' (alike_pivot t t' a.row a.column (omega arith) a.entering.column w) (subst₂ (λ r c. Alike (pivot t' r c) u') (sym same_r) (sym same_c) b.turned))
 
 pub after_once : (g : LinearProgram) (n : ℕ) (t u : Tableau) → IsLinearProgram g → IsAfter g n t → IsAfter g n u → Alike t u
-after_once g zero t u p a b = alike_trans t g.start u (alike_sym g.start t a) b
+after_once g zero t u p a b = alike_both g.start t u a b
 after_once g (suc n) t u p f h = step_once g f.0 h.0 t u p (after_on_path g n f.0 p f.1.0) (after_on_path g n h.0 p h.1.0) (after_once g n f.0 h.0 p f.1.0 h.1.0) f.1.1 h.1.1
 
 -- where the last row has no negative entry the path is at its end

@@ -1,10 +1,9 @@
 -- The path over whole numbers is the path of the linear program.
-use Rattle.std.proofs.Common.{ℕ, zero, suc, ◌<◌, ◌≡◌, ◌+◌, ◌-◌, ◌^◌, length, refl, sym, ap, ap₂, ◌∙◌, subst, subst₂, arith}
-use Rattle.rational.specs.Rational.{◌*ℚ◌, ◌-ℚ◌, inv_ℚ, zero_ℚ, ◌≤ℚ◌}
+use Rattle.std.proofs.Common.{ℕ, zero, suc, ◌<◌, ◌≡◌, ◌+◌, ◌-◌, ◌^◌, length, refl, sym, ap, ◌∙◌, subst, subst₂, arith}
+use Rattle.rational.specs.Rational.{zero_ℚ, ◌≤ℚ◌}
 use Rattle.rational.proofs.Field.{not_lt_of_le}
-use Rattle.linear_systems.specs.Tableau.{Tableau}
-use Rattle.linear_systems.specs.Rows.{coefficient, key, IsLexicographicRow}
-use Rattle.linear_systems.proofs.LexLemmas.{lex_same}
+use Rattle.linear_systems.specs.Rows.{IsLexicographicRow}
+use Rattle.linear_systems.proofs.LexRowLemmas.{lex_row_by}
 use Rattle.zero_sum_lp.specs.Paths.{IsEnteringOf, IsEntering, IsOptimal, IsAfter}
 use Rattle.zero_sum_lp.proofs.DeterminedPathLemmas.{after_on_path, after_leaves, path_is_short}
 use Rattle.frac128.specs.declared.steps.Unfit.{Unfit}
@@ -22,19 +21,6 @@ pub record IsUnderWay (first now : WholeTableau) (past pivots number : ℕ) : Ty
   pub path : LeadsTo first count now
   pub counted : pivots ≡ count + past
   pub is_number : number ≡ pivot_number (suc count)
-
--- keys by the same variables
-key_by : (m : ℕ) (b d : ℕ → ℕ) (t : Tableau) (i p : ℕ) → ((q : ℕ) → q < m → b q ≡ d q) → p < suc m → key b t i p ≡ key d t i p
-key_by m b d t i zero h l = refl
-key_by m b d t i (suc p) h l = ap (coefficient t i) (h p (omega arith))
-
-lex_row_by : (k m : ℕ) (b d : ℕ → ℕ) (t : Tableau) (c r : ℕ) → ((q : ℕ) → q < m → b q ≡ d q) → IsLexicographicRow k m b t c r → IsLexicographicRow k m d t c r
-lex_row_by k m b d t c r h l =
-    record {
-      within = l.within;
-      positive = l.positive;
-      least = λ i hi ne p. record { by = lex_same (suc m) _ _ (λ j hj. ap₂ (λ x y. (x *ℚ inv_ℚ (t.cell i c)) -ℚ (y *ℚ inv_ℚ (t.cell r c))) (key_by m b d t i j h hj) (key_by m b d t r j h hj)) (l.least i hi ne p).by };
-    }
 
 -- what the path keeps
 pub kept : (first n : WholeTableau) (k : ℕ) → LeadsTo first k n → (n.starts ≡ first.starts) × (n.rated ≡ first.rated)

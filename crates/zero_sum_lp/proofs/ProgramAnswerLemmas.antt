@@ -3,7 +3,7 @@ use Rattle.std.proofs.Common.{◌≡◌, ◌∙◌, ◌<◌, List, [], ◌∷◌
 use Rattle.answers.specs.Answers.{◌>>◌, IsSingle, only, refused_by}
 use Rattle.answers.proofs.AnswerLemmas.{bind-single, only-single, refuse_where-single, refused_by-single}
 use Rattle.zero_sum_lp.specs.Programs.{program_of}
-use Rattle.linear_systems.proofs.AgreementLemmas.{alike_sym, alike_trans}
+use Rattle.linear_systems.proofs.AgreementLemmas.{alike_both}
 use Rattle.lex_tableau.specs.Starts.{LinearSystem, system_of}
 use Rattle.lex_tableau.specs.StartStops.{start_of}
 use Rattle.lex_tableau.proofs.SystemLemmas.{systems_determined, start_of-single}
@@ -48,7 +48,7 @@ module _ (f : FormData) where
   one_system : (s t : LinearSystem) → IsSystemOf f s → IsSystemOf f t → s ≡ t
   one_system s t h g =
       let program = program_of (side_of f.first) (side_of f.second) (gains (form f) f.least_one) in
-      systems_determined s t h.valid g.valid (alike_trans (system_of s) program (system_of t) (alike_sym program (system_of s) h.program) g.program) (h.rated ∙ sym g.rated)
+      systems_determined s t h.valid g.valid (alike_both program (system_of s) (system_of t) h.program g.program) (h.rated ∙ sym g.rated)
 
   form_start_in-single : IsSingle (form_start_in f)
   form_start_in-single =

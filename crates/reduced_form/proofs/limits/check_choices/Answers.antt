@@ -5,7 +5,7 @@ use Rattle.reduced_form.specs.Counts.{counts_in}
 use Rattle.reduced_form.specs.Limits.{most_choices}
 use Rattle.reduced_form.specs.declared.stop.ReduceStop.TheVariants as stops
 use Rattle.reduced_form.proofs.FormCountLemmas.{choices-step, few_choices, few_strategies, many-choices}
-use Rattle.strategy_lists.proofs.OwnNumberLemmas.{own_numbers-length}
+use Rattle.game_theory.proofs.IndexLemmas.{numbers_with-length}
 use Rattle.reduced_form.proofs.limits.check_choices.Goals as goal
 use Rattle.reduced_form.proofs.limits.check_choices.Goals.{After-own_set_count}
 
@@ -15,7 +15,7 @@ few c =
     let valid = c.trees_are_game_trees.ensures c.args.tree.now c.players-player-end.ensures.valid in
     let some : 0 < length c.args.tree.now.players = omega (arith, ap length c.players-player-end.ensures.players) in
     few_choices _ _ (few_strategies (game_of_tree c.args.tree.now) c.args.counts.now c.loop-player.player valid c.requires.counted some c.requires.few)
-    (omega (arith, c.own_set_count.ensures, own_numbers-length (game_of_tree c.args.tree.now).owner c.loop-player.player (length c.args.tree.now.sets), c.players-player-end.ensures.valid.few_sets, c.players-player-end.ensures.valid.few_nodes))
+    (omega (arith, c.own_set_count.ensures, numbers_with-length (game_of_tree c.args.tree.now).owner c.loop-player.player (length c.args.tree.now.sets), c.players-player-end.ensures.valid.few_sets, c.players-player-end.ensures.valid.few_nodes))
 
 pub overflow_mul-choices : goal.overflow_mul-choices
 overflow_mul-choices c = omega (arith, few c)

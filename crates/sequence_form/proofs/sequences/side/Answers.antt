@@ -1,6 +1,6 @@
 use Rattle.std.proofs.Common.{◌≡◌, ◌∙◌, ◌++◌, ◌∷◌, [], ap, ap₂, sym, get_or, length, map, arith}
 use Rattle.game_core.specs.TreeGame.{game_of_tree}
-use Rattle.game_theory.specs.OwnSets.{own_numbers}
+use Rattle.game_theory.specs.OwnSets.{numbers_with}
 use Rattle.sequence_form.specs.Sequences.{own_set_row}
 use Rattle.sequence_form.proofs.NumberingLemmas.{first-at, firsts-length, rows-own, rows-other, same_side}
 use Rattle.sequence_form.proofs.sequences.side.Goals as goal
@@ -25,5 +25,5 @@ returns c =
     let sets : length c.sets-sets.result.now ≡ length c.args.tree.now.sets = ap length c.sets-sets.ensures.sets in
     let whole : c.loop-set.set ≡ length c.args.tree.now.sets = omega (arith, sets) in
     let count = ap (λ n. get_or c.args.firsts.now n 0) sets ∙ first-at g c.args.player c.args.firsts.now (length c.args.tree.now.sets) c.requires.firsts (omega arith) in
-    let rows = c.loop-set.invariant ∙ ap (λ n. map (own_set_row g c.args.player) (own_numbers g.owner c.args.player n)) whole in
+    let rows = c.loop-set.invariant ∙ ap (λ n. map (own_set_row g c.args.player) (numbers_with g.owner c.args.player n)) whole in
     c.new.ensures ∙ same_side g c.args.player _ _ count rows

@@ -2,7 +2,8 @@ use Rattle.std.proofs.Common.{◌≡◌, ◌≤◌, refl, ap, sym, arith, length
 use Rattle.std.proofs.lemmas.List.{length-map}
 use Rattle.std.proofs.lemmas.Option.{slice_get_past, slice_get_read}
 use Rattle.game_core.specs.OwnSets.{numbers_owned}
-use Rattle.game_core.proofs.PlayerSetLemmas.{numbers_owned-nobody, own_list, owners_within}
+use Rattle.game_theory.proofs.IndexLemmas.{places_with-past}
+use Rattle.game_core.proofs.PlayerSetLemmas.{own_list, owners_within}
 use Rattle.game_core.proofs.tree.Tree.own_sets.Goals as goal
 use Rattle.game_core.proofs.tree.Tree.own_sets.Goals.{In_ok-list}
 
@@ -10,7 +11,7 @@ pub returns-in_err-list : goal.returns-in_err-list
 returns-in_err-list c =
     let lists = rw length-map at c.self.invariant.1.one_for_each in
     let past : length c.self.inside.players.items ≤ c.args.player = omega (arith, c.in_err-list.ensures.lookup, ap length c.deref.ensures.value) in
-    rw (← c.self.view_is, numbers_owned-nobody c.args.player _ c.self.inside.sets.items (owners_within _ c.self.invariant.0) past) c.from_residual.ensures
+    rw (← c.self.view_is, places_with-past (λ set. set.owner) c.self.inside.sets.items _ c.args.player (owners_within _ c.self.invariant.0) past) c.from_residual.ensures
 
 -- the player's list has the player's own sets
 list_is : (c : In_ok-list) → numbers_owned c.self.inside.sets.items c.args.player ≡ c.in_ok-list.list.now.items
