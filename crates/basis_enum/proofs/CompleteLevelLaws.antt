@@ -24,7 +24,7 @@ use Rattle.basis_enum.specs.Systems.{IsEnumerable}
 use Rattle.basis_enum.specs.Reached.{level_of, reached_in}
 use Rattle.basis_enum.proofs.LevelLemmas.{IsNext, first_read, next_read, level_many}
 use Rattle.basis_enum.proofs.DigitLemmas.{basis_tells}
-use Rattle.basis_enum.proofs.AscendingNumberLemmas.{in_cases, first_in, rest_in, mapped, unmapped}
+use Rattle.lists.proofs.AscendingNumberLemmas.{in_cases, first_in, rest_in, mapped, unmapped}
 use Rattle.basis_enum.proofs.NeighbourLemmas.{place_of, nonbasics_are, exchanged_at, exchanged_are}
 
 enumerable_digits : (s : LinearSystem) → IsEnumerable s → (v : ℕ) → IsVariableOf (system_of s) v → (0 < v) × (v ≤ 128)

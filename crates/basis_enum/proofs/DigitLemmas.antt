@@ -6,7 +6,7 @@ use Rattle.std.specs.List.{Contains}
 use Rattle.std.proofs.lemmas.List.Sums.{sum_by-cons}
 use Rattle.linear_systems.proofs.PivotLemmas.{eqb_same, eqb_apart}
 use Rattle.basis_enum.specs.Bases.{digit, basis_of, AreVariables, ComesFirst}
-use Rattle.basis_enum.proofs.AscendingNumberLemmas.{first_in, rest_in, in_cases}
+use Rattle.lists.proofs.AscendingNumberLemmas.{first_in, rest_in, in_cases}
 
 -- the number with the digits d 1, d 2, .. d n
 binary : ℕ → (ℕ → ℕ) → ℕ

@@ -7,7 +7,7 @@ use Rattle.lex_tableau.specs.Starts.{LinearSystem}
 use Rattle.lex_tableau.specs.StartStops.{IsStarted}
 use Rattle.basis_enum.specs.Levels.{Levels, Pivot, AreNextPivots, IsNextLevel, no_tableau, basis_count, most_bases, first_level}
 use Rattle.basis_enum.specs.Reached.{level_of, next_level}
-use Rattle.basis_enum.proofs.AscendingNumberLemmas.{in_cases}
+use Rattle.lists.proofs.AscendingNumberLemmas.{in_cases}
 
 -- level 0
 pub record IsFirst (s : LinearSystem) (l : Levels) : Type 0 where

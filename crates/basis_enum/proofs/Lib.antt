@@ -1,5 +1,4 @@
 pub mod AscendingListLemmas
-pub mod AscendingNumberLemmas
 pub mod BasicValueLemmas
 pub mod CompleteLevelLaws
 pub mod DigitLemmas

@@ -4,7 +4,7 @@ use Rattle.std.specs.List.{Contains}
 use Rattle.std.specs.List.Sorted.{IsStrictlyIncreasing}
 use Rattle.std.proofs.lemmas.List.{length-append}
 use Rattle.std.proofs.lemmas.List.Elements.{Contains-append_left, Contains-append_right, Contains-append_cases, Contains-get_or}
-use Rattle.basis_enum.proofs.AscendingNumberLemmas.{first_in, in_cases, increasing_push}
+use Rattle.lists.proofs.AscendingNumberLemmas.{first_in, in_cases, increasing_push}
 use Rattle.basis_enum.proofs.NeighbourLemmas.{place_of}
 use Rattle.basis_enum.specs.Merged.{IsMerged, TakesFirst}
 

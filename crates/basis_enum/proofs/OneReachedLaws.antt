@@ -18,7 +18,7 @@ use Rattle.basis_enum.specs.Levels.{Levels, Pivot, AreNextPivots, IsAfterPivot, 
 use Rattle.basis_enum.specs.Reached.{AreReached, IsUnfitPivot, ReachedAreSingle, bases_within, level_of, next_level, next_pivots, pivots_fit, told_start}
 use Rattle.basis_enum.specs.declared.stop.EnumStop.{EnumStop}
 use Rattle.basis_enum.specs.declared.stop.EnumStop.TheVariants.{Range, TooLarge}
-use Rattle.basis_enum.proofs.AscendingNumberLemmas.{increasing_same}
+use Rattle.lists.proofs.AscendingNumberLemmas.{increasing_same}
 use Rattle.basis_enum.proofs.LevelLemmas.{level_valid}
 use Rattle.basis_enum.proofs.NextPivotLemmas.{pivots_once}
 

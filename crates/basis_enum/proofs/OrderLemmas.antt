@@ -10,7 +10,7 @@ use Rattle.std.proofs.lemmas.List.Elements.{All-nil, All-cons, All-head, All-tai
 use Rattle.std.proofs.lemmas.List.Kept.{AllPairs-cons}
 use Rattle.std.proofs.lemmas.List.Sorted.{IsNonDecreasingBy-from_default}
 use Rattle.linear_systems.proofs.PivotLemmas.{eqb_same, eqb_apart}
-use Rattle.basis_enum.proofs.AscendingNumberLemmas.{first_in, rest_in, in_cases}
+use Rattle.lists.proofs.AscendingNumberLemmas.{first_in, rest_in, in_cases}
 
 -- the numbers of x and y are equal
 abbrev pub is_tie : {X : Type 0} → (X → ℕ) → X → X → Bool

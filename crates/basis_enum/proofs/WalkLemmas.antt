@@ -20,7 +20,7 @@ use Rattle.basis_enum.specs.Levels.{Levels, IsPivot, AreNextPivots, bases_of, ba
 use Rattle.basis_enum.specs.Systems.{IsEnumerable, variable_count}
 use Rattle.basis_enum.specs.Reached.{bases_within, level_of, next_level, next_pivots, reached_in, told_start}
 use Rattle.basis_enum.proofs.CompleteLevelLaws.{Held, held_start, held_child, held_digits, level_held, pivoted_nonbasics}
-use Rattle.basis_enum.proofs.AscendingNumberLemmas.{unmapped}
+use Rattle.lists.proofs.AscendingNumberLemmas.{unmapped}
 use Rattle.basis_enum.proofs.LevelLemmas.{level_few, level_many}
 use Rattle.basis_enum.specs.declared.found_pivots.FoundPivot.{FoundPivot}
 use Rattle.basis_enum.specs.declared.stop.EnumStop.{EnumStop}

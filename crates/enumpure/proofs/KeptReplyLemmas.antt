@@ -18,8 +18,10 @@ pub KeepsBestBelow-none : (g : Game) (i : ℕ) (best_replies : List Bool) → Ke
 KeepsBestBelow-none g i best_replies = record { done = λ k l h. absurd (omega arith); ahead = λ k l h. refl }
 
 -- at last each entry is done
-pub KeepsBestReplies-all : (g : Game) (i : ℕ) (old new : List Bool) → i < length g.strategies → ((k : ℕ) → k < length g.strategies → 0 < get_or g.strategies k 0) → KeepsBestBelow g i old new (profile_count g.strategies) → KeepsBestReplies g i old new
-KeepsBestReplies-all g i old new l b h k p = h.done k p (exchanged-below g.strategies k i 0 (record { number = p; player = l }) (b i l))
+pub KeepsBestReplies-all : (g : Game) (i : ℕ) (old new : List Bool) → i < length g.strategies → KeepsBestBelow g i old new (profile_count g.strategies) → KeepsBestReplies g i old new
+KeepsBestReplies-all g i old new l h k p =
+    let some = strategy_at-below g.strategies k i (record { number = p; player = l }) in
+    h.done k p (exchanged-below g.strategies k i 0 (record { number = p; player = l }) (omega (arith, some)))
 
 -- a profile with another strategy than 0 settles nothing
 pub KeepsBestBelow-skip : (g : Game) (i : ℕ) (old new : List Bool) (first : ℕ) → i < length g.strategies → 0 < get_or g.strategies i 0 → strategy_at g.strategies first i ≢ 0 → KeepsBestBelow g i old new first → KeepsBestBelow g i old new (first + 1)

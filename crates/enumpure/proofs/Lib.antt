@@ -1,4 +1,5 @@
 pub mod BestPayoffLemmas
+pub mod ColumnLemmas
 pub mod ExchangeLemmas
 pub mod KeptReplyLemmas
 pub mod LineLengthLemmas

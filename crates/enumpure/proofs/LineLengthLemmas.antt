@@ -1,26 +1,25 @@
 -- The lengths of lines, and of the text of lines.
-use Rattle.std.proofs.Common.{ℕ, zero, suc, ◌+◌, ◌*◌, ◌^◌, ◌<◌, ◌≤◌, ◌≡◌, ◌≢◌, ◌⊎◌, inl, inr, Bool, List, [], ◌∷◌, ◌++◌, length, codes, get_or, take, refl, sym, ap, ◌∙◌, arith, length-append}
+use Rattle.std.proofs.Common.{ℕ, zero, suc, ◌+◌, ◌*◌, ◌^◌, ◌<◌, ◌≤◌, ◌≡◌, ◌≢◌, ◌⊎◌, inl, inr, Bool, List, All, [], ◌∷◌, ◌++◌, length, codes, get_or, take, refl, sym, ap, ◌∙◌, arith, length-append}
 use Rattle.std.proofs.lemmas.Bool.{cases_eq}
 use Rattle.std.specs.List.{sum_by, count_by}
 use Rattle.std.proofs.lemmas.Grind.{flat_map-append}
 use Rattle.std.proofs.lemmas.List.{take_all}
-use Rattle.std.proofs.lemmas.List.Sums.{sum_by-cons}
+use Rattle.std.proofs.lemmas.List.Sums.{sum_by-cons, sum_by-take-le}
 use Rattle.std.proofs.Math.Nat.{mul-le-mul, mul-le-mul_left}
 use Rattle.std.specs.Fmt.{digits}
-use Rattle.game_core.proofs.TableCountLemmas.{length-strategy_counts, at_most_product, profile_count-table}
 use Rattle.rational.specs.Gcd.{gcd}
 use Rattle.rational.specs.Rational.{ℚ, is_lowest, frac, zero_ℚ, one_ℚ}
 use Rattle.game_theory.specs.Profiles.{profile_count}
 use Rattle.game_theory.specs.Mixed.{Mixed, later, sure, pure}
 use Rattle.game_theory.specs.Lines.{listed, entries, number_text, line_text, lines_text}
 use Rattle.game_theory.proofs.SureStrategyLemmas.{sure-at, sure-other}
-use Rattle.game_core.specs.Table.{GameTable, IsTable, strategy_counts, most_payoffs}
+use Rattle.game_core.specs.Table.{most_payoffs}
 use Rattle.ne_printer.specs.Entries.{entry_text, entries_text}
 use Rattle.ne_printer.proofs.LineTextLemmas.{line_text-joined}
 use Rattle.enumpure.specs.Ranks.{ranked_plays_best, rank_line, lines_below}
 use Rattle.enumpure.proofs.ListedLineLemmas.{length-listed_ones}
 use Rattle.enumpure.specs.Replies.{plays_best}
-use Rattle.game_core.proofs.StrideLemmas.{HaveStrategies, HaveStrategies-later, HaveStrategies-table, profile_count-positive}
+use Rattle.game_core.proofs.StrideLemmas.{HaveStrategies, HaveStrategies-later, profile_count-positive}
 use Rattle.enumpure.proofs.TotalLemmas.{total, one_if, total-ranked, total-best_replies}
 
 -- the text of 1
@@ -69,29 +68,30 @@ length-line_text (zero ∷ ns) profile h e = absurd (omega (arith, h.some 0 (ome
 length-line_text (suc n ∷ ns) profile h e =
     length-line_some (pure profile 0 0) (listed n (λ i. pure profile 0 (suc i)) ++ entries ns (later (pure profile))) ∙ ap (λ v. 3 + v) (length-entries (suc n ∷ ns) (pure profile) (λ i s. length-entry_text (get_or profile i 0) s))
 
--- the strategies of all players are at most as many as players times profiles
-sum-at_most : (ns : List ℕ) → HaveStrategies ns → sum_by (λ n. n) ns ≤ length ns * profile_count ns
-sum-at_most [] h = omega arith
-sum-at_most (n ∷ ns) h =
-    let p : ℕ = profile_count ns in
-    let rest : HaveStrategies ns = HaveStrategies-later n ns h in
-    let one : n * 1 ≤ n * p = mul-le-mul_left n (profile_count-positive ns rest) in
-    let all : length ns * p ≤ n * (length ns * p) = at_most_product n (length ns * p) (h.some 0 (omega arith)) in
-    omega (arith, one, all, sum_by-cons (λ n. n) n ns, sum-at_most ns rest)
+-- each player has some strategy
+pub HaveStrategies-all : (ns : List ℕ) → All (λ n. 0 < n) ns → HaveStrategies ns
+HaveStrategies-all ns h = record { some = λ i l. h i 0 l }
 
--- a table has few strategies
-pub sum-table : (t : GameTable) → IsTable t → sum_by (λ n. n) (strategy_counts t) ≤ most_payoffs
-sum-table t h =
-    let e : length (strategy_counts t) * profile_count (strategy_counts t) ≡ length t.payoffs = ap (λ v. v * profile_count (strategy_counts t)) (length-strategy_counts t h) ∙ sym h.payoffs_of_each in
-    omega (arith, sum-at_most (strategy_counts t) (HaveStrategies-table t h), e, h.few_payoffs)
+-- the strategies of all players are at most as many as players and profiles
+sum-at_most : (ns : List ℕ) → HaveStrategies ns → sum_by (λ n. n) ns ≤ length ns + profile_count ns
+sum-at_most [] h = omega arith
+sum-at_most (zero ∷ ns) h = absurd (omega (arith, h.some 0 (omega arith)))
+sum-at_most (suc n ∷ ns) h =
+    let rest : HaveStrategies ns = HaveStrategies-later (suc n) ns h in
+    let one : n * 1 ≤ n * profile_count ns = mul-le-mul_left n (profile_count-positive ns rest) in
+    omega (arith, one, sum_by-cons (λ n. n) (suc n) ns, sum-at_most ns rest)
+
+-- few players with few profiles have few strategies
+pub few_strategies : (ns : List ℕ) (strategies i : ℕ) → All (λ n. 0 < n) ns → length ns < 2 ^ 40 → profile_count ns ≤ most_payoffs → strategies ≡ sum_by (λ n. n) (take i ns) → strategies < 2 ^ 41
+few_strategies ns strategies i h l few e = omega (arith, e, sum_by-take-le (λ n. n) ns i, sum-at_most ns (HaveStrategies-all ns h))
 
 -- past the last player all strategies are counted
-pub all_counted : (t : GameTable) (strategies i : ℕ) → IsTable t → length t.players ≤ i → strategies ≡ sum_by (λ n. n) (take i (strategy_counts t)) → strategies ≡ sum_by (λ n. n) (strategy_counts t)
-all_counted t strategies i h l e = e ∙ ap (sum_by (λ n. n)) (take_all i (strategy_counts t) (omega (arith, length-strategy_counts t h)))
+pub all_counted : (ns : List ℕ) (strategies i : ℕ) → length ns ≤ i → strategies ≡ sum_by (λ n. n) (take i ns) → strategies ≡ sum_by (λ n. n) ns
+all_counted ns strategies i l e = e ∙ ap (sum_by (λ n. n)) (take_all i ns l)
 
--- the lines of all profiles of a table have few bytes
-pub few_bytes : (t : GameTable) (n : ℕ) → IsTable t → n ≤ 3 + 2 * most_payoffs → profile_count (strategy_counts t) * n < 2 ^ 64
-few_bytes t n h l = omega (arith, mul-le-mul (profile_count-table t h) l)
+-- the lines of few profiles have few bytes
+pub few_bytes : (profiles n : ℕ) → profiles ≤ most_payoffs → n ≤ 3 + 2 * 2 ^ 41 → profiles * n < 2 ^ 64
+few_bytes profiles n h l = omega (arith, mul-le-mul h l)
 
 -- the length of the text is that of a line for each entry
 pub length-lines_text : (ns : List ℕ) (best_replies : List Bool) (n : ℕ) → length best_replies ≡ profile_count ns → ((profile : List ℕ) → length (line_text (entries ns (pure profile))) ≡ n) → length (lines_text (lines_below ns best_replies (length best_replies))) ≡ count_by (λ b. b) best_replies * n

@@ -1,6 +1,6 @@
 -- The lines of profiles of best replies, by rank.
-use Rattle.std.proofs.Common.{ℕ, ◌≤◌, ◌≡◌, Bool, IsTrue, List, length, set, ◌↔◌, Contains, refl, sym, ap, ap₂, ◌∙◌, subst, arith}
-use Rattle.rational.specs.Rational.{ℚ, ◌≤ℚ◌}
+use Rattle.std.proofs.Common.{ℕ, ◌≡◌, Bool, IsTrue, List, length, set, ◌↔◌, Contains, refl, sym, ap, ap₂, ◌∙◌, subst, arith}
+use Rattle.rational.specs.Rational.{◌≤ℚ◌}
 use Rattle.game_theory.specs.Profiles.{Game, profile_count, IsProfile, number_of}
 use Rattle.game_theory.specs.Mixed.{pure}
 use Rattle.game_theory.specs.Equilibrium.{IsEquilibrium}

@@ -1,13 +1,14 @@
 -- A profile that is written, and its number that is added up, player by player.
-use Rattle.std.proofs.Common.{ℕ, suc, ◌+◌, ◌*◌, ◌/◌, ◌%◌, ◌<◌, ◌≤◌, ◌≡◌, ◌≢◌, ◌⊎◌, inl, inr, List, [], ◌∷◌, length, get_or, set, drop, refl, sym, ap, ap₂, ◌∙◌, subst, arith, mod-lt, drop-cons, add-one}
+use Rattle.std.proofs.Common.{ℕ, zero, suc, ◌+◌, ◌*◌, ◌/◌, ◌%◌, ◌<◌, ◌≤◌, ◌≡◌, ◌≢◌, ◌⊎◌, inl, inr, List, [], ◌∷◌, length, get_or, set, drop, refl, sym, ap, ap₂, ◌∙◌, subst, arith, mod-lt, drop-cons, add-one}
 use Rattle.std.proofs.lemmas.Bool.{cases_eq}
 use Rattle.std.proofs.lemmas.List.{get_or-set_same, get_or-set_other, ext_get_or}
 use Rattle.std.proofs.Math.Nat.{mul-div_cancel_left}
-use Rattle.game_theory.specs.Profiles.{profile_count, IsProfile}
-use Rattle.game_theory.proofs.ProfileNumberLemmas.{profile-below}
+use Rattle.game_theory.specs.Profiles.{profile_count, IsProfile, number_of}
+use Rattle.game_theory.proofs.ProfileNumberLemmas.{number_of-below, profile-below}
 use Rattle.game_theory.specs.Ranks.{ranked}
 use Rattle.game_theory.proofs.RankLemmas.{factors-positive}
 use Rattle.game_core.proofs.StrideLemmas.{HaveStrategies}
+use Rattle.game_core.proofs.TableCountLemmas.{at_most_product}
 
 -- The strategies of the players before `i` are written, and the others are those of the profile with rank
 -- `rest` among the profiles of the players from `i` on, of which there are `later`.
@@ -76,3 +77,16 @@ HaveStrategies-profile ns s p = record { some = λ i l. omega (arith, profile-be
 pub length-ranked : (ns : List ℕ) (r : ℕ) → length (ranked ns r) ≡ length ns
 length-ranked [] r = refl
 length-ranked (n ∷ ns) r = ap suc (length-ranked ns (r % profile_count ns))
+
+-- ---- numbers
+-- the number from a player on, by that player's strategy and the number from the next on
+pub number_of-step : (ns s : List ℕ) (i rest : ℕ) → IsProfile ns s → i < length s → rest ≡ number_of (drop (suc i) ns) (drop (suc i) s) → (get_or s i 0 + get_or ns i 0 * rest ≡ number_of (drop i ns) (drop i s)) × (get_or s i 0 + get_or ns i 0 * rest < profile_count ns)
+number_of-step [] [] i rest h l e = absurd (omega arith)
+number_of-step [] (t ∷ ts) i rest h l e = absurd h
+number_of-step (n ∷ ns) [] i rest h l e = absurd h
+number_of-step (n ∷ ns) (t ∷ ts) zero rest h l e =
+    let number : t + n * rest ≡ number_of (n ∷ ns) (t ∷ ts) = ap (λ v. t + n * v) e in
+    (number, omega (arith, number, number_of-below (n ∷ ns) (t ∷ ts) h))
+number_of-step (n ∷ ns) (t ∷ ts) (suc i) rest h l e =
+    let later = number_of-step ns ts i rest h.1 (omega arith) e in
+    (later.0, omega (arith, later.1, at_most_product n (profile_count ns) (omega (arith, h.0))))

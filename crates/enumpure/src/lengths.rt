@@ -1,23 +1,24 @@
 // How many bytes the lines have, counted before they are written.
-ghost use Rattle.std.specs.Prelude.{◌≡◌, ◌*◌, ◌<◌, ◌^◌, ℕ, List, length};
+ghost use Rattle.std.specs.Prelude.{◌≡◌, ◌*◌, ◌<◌, ◌≤◌, ◌^◌, ℕ, List, All, length};
 ghost use Rattle.game_theory.specs.Profiles.{profile_count};
 ghost use Rattle.game_theory.specs.Mixed.{pure};
 ghost use Rattle.game_theory.specs.Lines.{entries, line_text, lines_text};
-ghost use Rattle.game_core.specs.Table.{strategy_counts};
+ghost use Rattle.game_core.specs.Table.{most_payoffs};
 ghost use Rattle.enumpure.specs.Ranks.{lines_below};
-
-use game_core::Table;
 
 // How many bytes the line of each pure profile has: besides `NE` and the line feed a comma and a
 // digit for each strategy, or a comma alone.
-fn line_length(table: &Table) -> usize
+fn line_length(counts: &[usize]) -> usize
+    requires some { All (λ n. 0 < n) counts.now }
+    requires players { length counts.now < 2 ^ 40 }
+    requires few { profile_count counts.now ≤ most_payoffs }
     ensures each { (profile : List ℕ)
-        → length (line_text (entries (strategy_counts table.now) (pure profile))) ≡ result }
-    ensures fits { profile_count (strategy_counts table.now) * result < 2 ^ 64 }
+        → length (line_text (entries counts.now (pure profile))) ≡ result }
+    ensures fits { profile_count counts.now * result < 2 ^ 64 }
 {
     let mut strategies = 0;
-    for player in 0..table.players().len() {
-        strategies += table.strategy_count(player);
+    for count in counts {
+        strategies += *count;
     }
     if strategies == 0 {
         4
@@ -26,12 +27,15 @@ fn line_length(table: &Table) -> usize
     }
 }
 
-/// How many bytes the lines of the profiles of best replies have.
-pub fn text_length(table: &Table, all_best: &[bool]) -> usize
-    requires best_replies { length all_best.now ≡ profile_count (strategy_counts table.now) }
-    ensures { result
-        ≡ length (lines_text (lines_below (strategy_counts table.now) all_best.now
-        (length all_best.now))) }
+/// How many bytes the lines of the profiles that pass have, where the players have so many
+/// strategies.
+pub fn text_length(counts: &[usize], passes: &[bool]) -> usize
+    requires some { All (λ n. 0 < n) counts.now }
+    requires players { length counts.now < 2 ^ 40 }
+    requires few { length passes.now ≤ most_payoffs }
+    requires each { length passes.now ≡ profile_count counts.now }
+    ensures { result ≡ length (lines_text (lines_below counts.now passes.now
+        (length passes.now))) }
 {
-    all_best.iter().filter(|all_best| **all_best).count() * line_length(table)
+    passes.iter().filter(|passes| **passes).count() * line_length(counts)
 }

@@ -1,13 +1,13 @@
-// The text of the pure equilibria of a table.
-ghost use Rattle.std.specs.Prelude.{◌≡◌, ◌<◌, ◌≤◌, ◌++◌, length, IfOk, OnOk};
+// The lines of the profiles that pass, and the text of the pure equilibria of a table.
+ghost use Rattle.std.specs.Prelude.{◌≡◌, ◌<◌, ◌≤◌, ◌^◌, ◌++◌, All, length, IfOk, OnOk};
 ghost use Rattle.answers.specs.Answers.{Gives, IsSingle, map_ok};
-ghost use Rattle.game_theory.specs.Profiles.{Game, IsProfile, profile_count};
+ghost use Rattle.game_theory.specs.Profiles.{Game, IsProfile, number_of, profile_count};
 ghost use Rattle.game_theory.specs.Mixed.{pure};
 ghost use Rattle.game_theory.specs.Lines.{entries as entries_of, lines_text};
-ghost use Rattle.game_core.specs.Table.{game_of, strategy_counts, most_payoffs};
+ghost use Rattle.game_core.specs.Table.{game_of, most_payoffs};
 ghost use Rattle.game_theory.specs.Ranks.{ranked};
 ghost use Rattle.enumpure.specs.Ranks.{lines_below};
-ghost use Rattle.enumpure.specs.Stops.{pure_text};
+ghost use Rattle.enumpure.specs.Stops.{profiles_text, pure_text};
 ghost use Rattle.enumpure.specs.declared.listing.ListStop.TheVariants as stops;
 
 use crate::lengths::text_length;
@@ -66,27 +66,38 @@ fn set_entries(entries: &mut Vec<Frac>, counts: &[usize], profile: &[u32]) -> Re
     Ok(())
 }
 
-// Adds the lines of the profiles of best replies in the order of their ranks. Writes over `profile`
-// and `entries`.
+// The number of a pure profile, where the players have so many strategies.
+fn profile_number(counts: &[usize], profile: &[u32]) -> usize
+    requires profile { IsProfile counts.now profile.now }
+    requires few { profile_count counts.now ≤ most_payoffs }
+    ensures { result ≡ number_of counts.now profile.now }
+{
+    let mut number = 0;
+    for player in (0..profile.len()).rev() {
+        number = profile[player] as usize + counts[player] * number;
+    }
+    number
+}
+
+// Adds the lines of the profiles that pass in the order of their ranks. Writes over `profile` and
+// `entries`.
 fn push_lines(
     alloc: Global,
     text: &mut Vec<u8>,
-    table: &Table,
     counts: &[usize],
-    all_best: &[bool],
+    passes: &[bool],
     profile: &mut [u32],
     entries: &mut Vec<Frac>,
 ) -> Result<(), Memory>
-    requires counts { counts.now ≡ strategy_counts table.now }
     requires players { length profile.old ≡ length counts.now }
-    requires best_replies { length all_best.now ≡ profile_count counts.now }
-    requires few { length all_best.now ≤ most_payoffs }
+    requires each { length passes.now ≡ profile_count counts.now }
+    requires few { length passes.now ≤ most_payoffs }
     ensures { OnOk result (text.new.items ≡ text.old.items
-        ++ lines_text (lines_below counts.now all_best.now (length all_best.now))) }
+        ++ lines_text (lines_below counts.now passes.now (length passes.now))) }
 {
-    for rank in 0..all_best.len() {
-        set_ranked(profile, counts, all_best.len(), rank);
-        if all_best[table.profile_number(profile)] {
+    for rank in 0..passes.len() {
+        set_ranked(profile, counts, passes.len(), rank);
+        if passes[profile_number(counts, profile)] {
             set_entries(entries, counts, profile)?;
             push_line(alloc, text, entries)?;
         }
@@ -94,34 +105,46 @@ fn push_lines(
     Ok(())
 }
 
-// The lines of the profiles of best replies, in a text that has room for so many bytes from the
-// start.
+// The lines of the profiles that pass, in a text that has room for so many bytes from the start.
 fn write_lines(
     alloc: Global,
-    table: &Table,
     counts: &[usize],
-    all_best: &[bool],
+    passes: &[bool],
     bytes: usize,
 ) -> Result<Vec<u8>, Memory>
-    requires counts { counts.now ≡ strategy_counts table.now }
-    requires few { length all_best.now ≤ most_payoffs }
-    requires best_replies { length all_best.now ≡ profile_count counts.now }
+    requires each { length passes.now ≡ profile_count counts.now }
+    requires few { length passes.now ≤ most_payoffs }
     ensures { IfOk result (λ text. text.items
-        ≡ lines_text (lines_below counts.now all_best.now (length all_best.now))) }
+        ≡ lines_text (lines_below counts.now passes.now (length passes.now))) }
 {
     let mut profile = vec![in alloc; 0; counts.len()]?;
     let mut entries = Vec::new(alloc);
     let mut text = Vec::with_capacity(alloc, bytes)?;
-    push_lines(
-        alloc,
-        &mut text,
-        table,
-        counts,
-        all_best,
-        &mut profile,
-        &mut entries,
-    )?;
+    push_lines(alloc, &mut text, counts, passes, &mut profile, &mut entries)?;
     Ok(text)
+}
+
+/// The lines of the pure profiles that pass, each once, in descending order of the lines' entries,
+/// where the players have so many strategies. `passes` says of each profile, by its number, whether
+/// it passes.
+///
+/// # Errors
+///
+/// `TooLarge` exactly where the lines have more than 67,108,864 bytes, which are counted before any
+/// line is written; `Memory` where memory ran out.
+pub fn list_profiles(alloc: Global, counts: &[usize], passes: &[bool]) -> Result<Vec<u8>, ListStop>
+    requires some { All (λ n. 0 < n) counts.now }
+    requires players { length counts.now < 2 ^ 40 }
+    requires each { length passes.now ≡ profile_count counts.now }
+    requires few { length passes.now ≤ most_payoffs }
+    ensures { Gives stops.Memory (profiles_text counts.now passes.now)
+        (map_ok result (λ text. text.items)) }
+{
+    let bytes = text_length(counts, passes);
+    if bytes > MOST_TEXT {
+        return Err(ListStop::TooLarge(too_long_text()));
+    }
+    Ok(write_lines(alloc, counts, passes, bytes)?)
 }
 
 /// The lines of the pure equilibria of a table, for any number of players: each pure profile at
@@ -138,11 +161,7 @@ pub fn list_pure_equilibria(alloc: Global, table: &Table) -> Result<Vec<u8>, Lis
 {
     let counts = table.strategy_counts(alloc)?;
     let all_best = mutual_best_replies(alloc, table)?;
-    let bytes = text_length(table, &all_best);
-    if bytes > MOST_TEXT {
-        return Err(ListStop::TooLarge(too_long_text()));
-    }
-    Ok(write_lines(alloc, table, &counts, &all_best, bytes)?)
+    list_profiles(alloc, &counts, &all_best)
 }
 
 /// A game has one such text, or one that is too long.

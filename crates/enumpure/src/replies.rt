@@ -1,27 +1,47 @@
-// The profiles of a table at which each player plays a best reply.
-ghost use Rattle.std.specs.Prelude.{◌≡◌, ℕ, ◌+◌, ◌*◌, ◌<◌, IsTrue, IfOk, EachIndex, length, slice_index};
-ghost use Rattle.game_theory.specs.Profiles.{profile_count};
-ghost use Rattle.game_core.specs.Table.{game_of, strategy_counts, IsTable};
-ghost use Rattle.enumpure.specs.Replies.{IsBest, KeepsBestInLine, KeepsBestReplies, AreMutualBestReplies, plays_best};
+// The profiles at which each player plays a best reply.
+ghost use Rattle.std.specs.Prelude.{◌≡◌, ℕ, ◌+◌, ◌*◌, ◌^◌, ◌<◌, IsTrue, IfOk, EachIndex, length};
+ghost use Rattle.game_theory.specs.Profiles.{Game, profile_count};
+ghost use Rattle.game_core.specs.Table.{game_of, strategy_counts};
+ghost use Rattle.enumpure.specs.Replies.{HasProfile, IsBest, IsColumnOf, KeepsBestInLine, KeepsBestReplies, AreMutualBestReplies, column_pays, plays_best};
 
 use frac128::{Frac, Memory};
 use game_core::{Table, profile_count};
 use std::alloc::Global;
 
+/// What profiles pay one player, by their numbers: every `step`-th of these numbers from `offset`
+/// on.
+#[derive(Clone, Copy, Debug)]
+pub struct Column<'a> {
+    /// The numbers.
+    pub numbers: &'a [Frac],
+    /// The index of what profile 0 pays.
+    pub offset: usize,
+    /// How far the next profile's index is from a profile's.
+    pub step: usize,
+}
+
+impl<'a> Column<'a> {
+    // What a profile pays.
+    fn pays(self, profile: usize) -> Frac
+        requires { HasProfile self profile }
+        ensures { result ≡ column_pays self.entry profile }
+    {
+        self.numbers[self.offset + self.step * profile]
+    }
+}
+
 // The best payoff among a player's strategies against what the others play in a profile, `first`,
 // in which the player plays strategy 0. The stride leads to the profile with the player's next
 // strategy.
-fn best_payoff(table: &Table, player: usize, stride: usize, first: usize) -> Frac
-    requires player { player < length table.now.players }
-    requires profiles { (s : ℕ) → s < slice_index (strategy_counts table.now) player
-        → first + stride * s < profile_count (strategy_counts table.now) }
-    requires valid { IsTable table.now }
-    ensures { IsBest ((game_of table.now).pays player) first stride
-        (slice_index (strategy_counts table.now) player) result }
+fn best_payoff(column: Column, stride: usize, strategies: usize, first: usize) -> Frac
+    requires some { 0 < strategies }
+    requires numbers { (s : ℕ) → s < strategies → first + stride * s < 2 ^ 64 }
+    requires profiles { (s : ℕ) → s < strategies → HasProfile column (first + stride * s) }
+    ensures { IsBest (column_pays column.entry) first stride strategies result }
 {
-    let mut best = table.payoff_at(first, player);
-    for strategy in 1..table.strategy_count(player) {
-        let other = table.payoff_at(first + stride * strategy, player);
+    let mut best = column.pays(first);
+    for strategy in 1..strategies {
+        let other = column.pays(first + stride * strategy);
         if best.is_less(other) {
             best = other;
         }
@@ -32,24 +52,40 @@ fn best_payoff(table: &Table, player: usize, stride: usize, first: usize) -> Fra
 // Keeps of these profiles those whose payoff reaches the best.
 fn keep_best(
     all_best: &mut [bool],
-    table: &Table,
-    player: usize,
+    column: Column,
     stride: usize,
+    strategies: usize,
     first: usize,
     best: Frac,
 )
-    requires player { player < length table.now.players }
-    requires best_replies { length all_best.old ≡ profile_count (strategy_counts table.now) }
     requires stride { 0 < stride }
-    requires profiles { (s : ℕ) → s < slice_index (strategy_counts table.now) player
-        → first + stride * s < profile_count (strategy_counts table.now) }
-    ensures in_line { KeepsBestInLine ((game_of table.now).pays player) first stride
-        (slice_index (strategy_counts table.now) player) best all_best.old all_best.new }
+    requires numbers { (s : ℕ) → s < strategies → first + stride * s < length all_best.old }
+    requires profiles { (s : ℕ) → s < strategies → HasProfile column (first + stride * s) }
+    ensures in_line { KeepsBestInLine (column_pays column.entry) first stride strategies best
+        all_best.old all_best.new }
 {
-    for strategy in 0..table.strategy_count(player) {
+    for strategy in 0..strategies {
         let profile = first + stride * strategy;
-        if table.payoff_at(profile, player).is_less(best) {
+        if column.pays(profile).is_less(best) {
             all_best[profile] = false;
+        }
+    }
+}
+
+/// Leaves out the profiles at which one player has a strategy with a greater payoff. `column` has
+/// what they pay that player, who has so many strategies, and `stride` leads to the number of the
+/// profile with the player's next strategy.
+pub fn keep_best_replies(all_best: &mut [bool], column: Column, stride: usize, strategies: usize)
+    requires { (game : Game) × (i : ℕ)
+        × IsColumnOf game i column (length all_best.old) stride strategies }
+    ensures { (game : Game) (i : ℕ)
+        → IsColumnOf game i column.entry (length all_best.old) stride strategies
+        → KeepsBestReplies game i all_best.old all_best.new }
+{
+    for first in 0..all_best.len() {
+        if first / stride % strategies == 0 {
+            let best = best_payoff(column, stride, strategies, first);
+            keep_best(all_best, column, stride, strategies, first, best);
         }
     }
 }
@@ -58,17 +94,15 @@ fn keep_best(
 fn keep_best_of_player(all_best: &mut [bool], table: &Table, player: usize)
     requires player { player < length table.now.players }
     requires best_replies { length all_best.old ≡ profile_count (strategy_counts table.now) }
-    requires valid { IsTable table.now }
     ensures { KeepsBestReplies (game_of table.now) player all_best.old all_best.new }
 {
+    let column = Column {
+        numbers: table.payoffs(),
+        offset: player,
+        step: table.players().len(),
+    };
     let stride = table.stride(player);
-    let strategies = table.strategy_count(player);
-    for first in 0..all_best.len() {
-        if first / stride % strategies == 0 {
-            let best = best_payoff(table, player, stride, first);
-            keep_best(all_best, table, player, stride, first, best);
-        }
-    }
+    keep_best_replies(all_best, column, stride, table.strategy_count(player));
 }
 
 // Leaves out the profiles at which some player has a strategy with a greater payoff.

@@ -16,7 +16,8 @@ use Rattle.reduced_strategies.proofs.SetLemmas.{choice_at-map}
 use Rattle.reduced_strategies.proofs.StrategyProfileLemmas.{first_actions-complete, completed-tell}
 use Rattle.enumpure_trees.specs.Laws.{LinesDetermineProfiles, OneTextOfEquilibria}
 use Rattle.enumpure_trees.specs.TreeEquilibria.{IsTreeEquilibriumLine, AreTreeEquilibria}
-use Rattle.enumpure_trees.proofs.PrintedSetLemmas.{printed_sets, printed_sets-has, tree_entries-profile, IsProfile-printed}
+use Rattle.game_theory.specs.OwnSets.{player_sets}
+use Rattle.game_theory.proofs.PlayerSetLemmas.{IsProfile-whole, player_sets-has, tree_entries-profile}
 
 -- ---- lines tell profiles
 -- functions with equal values at the sets
@@ -31,8 +32,8 @@ AreActions t choice = (s i : ℕ) → s < t.sets → t.owner s ≡ Some i → ch
 entries-tell : (t : Tree) (f g : ℕ → ℕ) (s i : ℕ) → IsTree t → AreActions t f → AreActions t g → tree_entries t (pure f) ≡ tree_entries t (pure g) → s < t.sets → t.owner s ≡ Some i → f s ≡ g s
 entries-tell t f g s i w a b e l o =
     let same = sym (tree_entries-profile t f) ∙ e ∙ tree_entries-profile t g in
-    let values = entries_pure-injective (map t.actions (printed_sets t)) (map f (printed_sets t)) (map g (printed_sets t)) (IsProfile-printed t f a) (IsProfile-printed t g b) same in
-    values-same f g (printed_sets t) s values (printed_sets-has t s i l o (w.owners_within s i l o))
+    let values = entries_pure-injective (map t.actions (player_sets t)) (map f (player_sets t)) (map g (player_sets t)) (IsProfile-whole t f a) (IsProfile-whole t g b) same in
+    values-same f g (player_sets t) s values (player_sets-has t s i w l o)
 
 -- a completed profile has an action at each player's set
 pub completed-actions : (t : Tree) (strategies : List (List (List ℕ))) (profile : List ℕ) → IsTree t → AreStrategies t strategies → IsProfile (map length strategies) profile → AreActions t (completed t strategies profile)

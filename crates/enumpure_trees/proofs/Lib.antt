@@ -7,7 +7,6 @@ pub mod ListedLineLemmas
 mod MutualReplyLemmas
 pub mod OrderedLineLemmas
 pub mod OrderedProfileLemmas
-pub mod PrintedSetLemmas
 mod RankSumLemmas
 mod RankedProfileLemmas
 mod SortedOrderLemmas

@@ -12,22 +12,23 @@ use Rattle.enumpure.proofs.LineLengthLemmas.{length-line_none, length-line_text}
 use Rattle.enumpure.proofs.ProfilePartLemmas.{HaveStrategies-profile}
 use Rattle.enumpure_trees.specs.TreeEquilibria.{profile_line}
 use Rattle.enumpure_trees.proofs.EquilibriumLineLemmas.{AreActions, completed-actions}
-use Rattle.enumpure_trees.proofs.PrintedSetLemmas.{printed_sets, tree_entries-profile, IsProfile-printed}
+use Rattle.game_theory.specs.OwnSets.{player_sets}
+use Rattle.game_theory.proofs.PlayerSetLemmas.{IsProfile-whole, tree_entries-profile}
 
 -- the lines of two choices of actions are of one length
 lengths-same : (t : Tree) (f g : ℕ → ℕ) → AreActions t f → AreActions t g → length (line_text (tree_entries t (pure f))) ≡ length (line_text (tree_entries t (pure g)))
 lengths-same t f g a b = go (cases_eq (sum_by (λ n. n) counts) 0)
   where
     counts : List ℕ
-    counts = map t.actions (printed_sets t)
+    counts = map t.actions (player_sets t)
 
     go : (sum_by (λ n. n) counts ≡ 0) ⊎ (sum_by (λ n. n) counts ≢ 0) → length (line_text (tree_entries t (pure f))) ≡ length (line_text (tree_entries t (pure g)))
     go (inl e) =
-        let some = HaveStrategies-profile counts (map f (printed_sets t)) (IsProfile-printed t f a) in
-        ap (λ v. length (line_text v)) (tree_entries-profile t f) ∙ length-line_none counts (map f (printed_sets t)) some e ∙ sym (length-line_none counts (map g (printed_sets t)) some e) ∙ ap (λ v. length (line_text v)) (sym (tree_entries-profile t g))
+        let some = HaveStrategies-profile counts (map f (player_sets t)) (IsProfile-whole t f a) in
+        ap (λ v. length (line_text v)) (tree_entries-profile t f) ∙ length-line_none counts (map f (player_sets t)) some e ∙ sym (length-line_none counts (map g (player_sets t)) some e) ∙ ap (λ v. length (line_text v)) (sym (tree_entries-profile t g))
     go (inr e) =
-        let some = HaveStrategies-profile counts (map f (printed_sets t)) (IsProfile-printed t f a) in
-        ap (λ v. length (line_text v)) (tree_entries-profile t f) ∙ length-line_text counts (map f (printed_sets t)) some e ∙ sym (length-line_text counts (map g (printed_sets t)) some e) ∙ ap (λ v. length (line_text v)) (sym (tree_entries-profile t g))
+        let some = HaveStrategies-profile counts (map f (player_sets t)) (IsProfile-whole t f a) in
+        ap (λ v. length (line_text v)) (tree_entries-profile t f) ∙ length-line_text counts (map f (player_sets t)) some e ∙ sym (length-line_text counts (map g (player_sets t)) some e) ∙ ap (λ v. length (line_text v)) (sym (tree_entries-profile t g))
 
 -- so are those of two profiles
 pub line_lengths-same : (t : Tree) (strategies : List (List (List ℕ))) (one other : List ℕ) → IsTree t → AreStrategies t strategies → IsProfile (map length strategies) one → IsProfile (map length strategies) other

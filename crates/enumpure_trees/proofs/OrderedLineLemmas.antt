@@ -3,7 +3,7 @@ use Rattle.std.proofs.Common.{ℕ, zero, suc, ◌+◌, ◌-◌, ◌<◌, ◌≤�
 use Rattle.std.proofs.lemmas.Bool.{cases_eq}
 use Rattle.std.proofs.lemmas.List.{length-map, map-append}
 use Rattle.game_theory.specs.TreeEntries.{tree_entries}
-use Rattle.game_theory.specs.OwnSets.{own_sets}
+use Rattle.game_theory.specs.OwnSets.{own_sets, player_sets}
 use Rattle.game_theory.proofs.OwnSetLemmas.{IsAmong, AscendFrom, IsAmong-from, own_sets-tell, own_sets-ascend}
 use Rattle.lists.specs.Orders.{ComesBefore}
 use Rattle.game_theory.specs.Profiles.{IsProfile, strategies_at}
@@ -20,7 +20,7 @@ use Rattle.enumpure_trees.specs.Orders.{completed_list, completed_of, AreOrders}
 use Rattle.enumpure_trees.specs.TreeEquilibria.{profile_line}
 use Rattle.enumpure_trees.proofs.EquilibriumLineLemmas.{AreActions, completed-actions}
 use Rattle.enumpure_trees.proofs.OrderedProfileLemmas.{order-of, IsProfile-ordered, get_or-ordered}
-use Rattle.enumpure_trees.proofs.PrintedSetLemmas.{sets_from, printed_sets, tree_entries-profile, IsProfile-printed}
+use Rattle.game_theory.proofs.PlayerSetLemmas.{IsProfile-whole, sets_from, tree_entries-profile}
 
 -- ---- the order of lists of actions
 -- lists after equal ones
@@ -82,7 +82,7 @@ module _ (t : Tree) (f g : ℕ → ℕ) (k : ℕ) (same : (j : ℕ) → j < k �
   -- and their line stands before
   entries-before : k < t.players → AreActions t f → AreActions t g → StandsBefore (tree_entries t (pure f)) (tree_entries t (pure g))
   entries-before l a b =
-      subst₂ (λ x y. StandsBefore x y) (sym (tree_entries-profile t f)) (sym (tree_entries-profile t g)) (StandsBefore-entries (map t.actions (printed_sets t)) (map f (printed_sets t)) (map g (printed_sets t)) (IsProfile-printed t f a) (IsProfile-printed t g b) (sets_from-before 0 t.players (omega arith) (omega arith)))
+      subst₂ (λ x y. StandsBefore x y) (sym (tree_entries-profile t f)) (sym (tree_entries-profile t g)) (StandsBefore-entries (map t.actions (player_sets t)) (map f (player_sets t)) (map g (player_sets t)) (IsProfile-whole t f a) (IsProfile-whole t g b) (sets_from-before 0 t.players (omega arith) (omega arith)))
 
 -- ---- completed lists
 -- a list completed is that of the actions that it gives its sets

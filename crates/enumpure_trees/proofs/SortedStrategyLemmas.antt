@@ -11,8 +11,8 @@ use Rattle.std.proofs.lemmas.List.FromFn.{length-range_with_len, get_or-range_wi
 use Rattle.std.proofs.lemmas.List.Sorted.{IsPermutation-map, All-permutation, Contains-permutation, length_permutation, ranks_by, sorted_far}
 use Rattle.std.proofs.lemmas.Simd.{map-map}
 use Rattle.lists.specs.Orders.{ComesBefore}
-use Rattle.choice_lists.proofs.AscendingOrderLemmas.{AllPairs-permutation, before_from_cmp}
-use Rattle.choice_lists.proofs.EndListLemmas.{Differ}
+use Rattle.strategy_lists.proofs.AscendingOrderLemmas.{AllPairs-permutation, before_from_cmp}
+use Rattle.strategy_lists.proofs.EndListLemmas.{Differ}
 use Rattle.enumpure_trees.specs.Orders.{completed_list, completed_of}
 use Rattle.enumpure_trees.specs.StrategyOrders.{AreTold, first_numbered, IsSortedOrder}
 

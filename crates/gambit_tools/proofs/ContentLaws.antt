@@ -4,7 +4,10 @@ use Rattle.answers.specs.Answers.{only, refused_by, ◌>>=◌}
 use Rattle.game_core.specs.declared.game.Game.{Game}
 use Rattle.game_core.specs.declared.game.Game.TheVariants.{Strategic, Extensive}
 use Rattle.game_core.specs.Table.{game_of}
+use Rattle.game_theory.specs.Trees.{Tree}
 use Rattle.game_core.specs.TokenList.{TokenList}
+use Rattle.game_core.specs.Tree.{GameTree}
+use Rattle.game_core.specs.TreeGame.{game_of_tree}
 use Rattle.game_text.specs.Stops.{tokens_of}
 use Rattle.game_text.specs.declared.reading.TextStop.{TextStop}
 use Rattle.game_text.specs.declared.reading.TextStop.TheVariants as text_stop
@@ -19,15 +22,19 @@ use Rattle.enumpure.specs.declared.listing.ListStop.{ListStop}
 use Rattle.enumpure.specs.declared.listing.ListStop.TheVariants as list_stop
 use Rattle.words.specs.Words.{Command, Enumpure, Enummixed, Lcp, Lp, Convert}
 use Rattle.gambit_tools.specs.Input.{most_bytes}
-use Rattle.refusals.specs.Told.{text_refusal, nfg_refusal, efg_refusal, list_refusal}
+use Rattle.refusals.specs.Told.{choice_refusal, text_refusal, nfg_refusal, efg_refusal, list_refusal}
+use Rattle.subgames.specs.Stops.{stable_text}
+use Rattle.subgames.specs.Values.{value_indices, value_steps}
+use Rattle.subgames.specs.declared.stop.ChoiceStop.{ChoiceStop}
+use Rattle.subgames.specs.declared.stop.ChoiceStop.TheVariants as choice_stop
 use Rattle.two_player_tools.specs.StrategicForms.{strategic_form}
 use Rattle.gambit_tools.specs.Games.{game_of_tokens, game_in}
-use Rattle.gambit_tools.specs.Enumpure.{enumpure}
+use Rattle.gambit_tools.specs.Enumpure.{enumpure, tree_answer}
 use Rattle.gambit_tools.specs.Commands.{tool_of}
 use Rattle.refusals.specs.declared.refusal.Refusal.{Refusal}
 use Rattle.refusals.specs.declared.refusal.Refusal.TheVariants as refusal
 use Rattle.gambit_tools.proofs.ConvertLaws.{convert-contents}
-use Rattle.gambit_tools.proofs.FormContentLemmas.{AreContents, IsOfContents, form-contents, strategic_form-contents, then-contents, told-contents}
+use Rattle.gambit_tools.proofs.FormContentLemmas.{AreContents, IsOfContents, fitting-reasons, form-contents, strategic_form-contents, then-contents, told-contents}
 use Rattle.gambit_tools.proofs.LcpContentLemmas.{lcp-contents}
 use Rattle.gambit_tools.proofs.LpContentLemmas.{lp-contents}
 use Rattle.gambit_tools.proofs.MixedContentLemmas.{enummixed-contents}
@@ -77,17 +84,30 @@ table_text-contents game =
     then-contents (strategic_form game) (λ table. refused_by list_refusal (pure_text (game_of table))) (strategic_form-contents game)
     (λ table. told-contents list_refusal (pure_text (game_of table)) (list-contents _))
 
-enumpure-contents : (strategic : Bool) (game : Game) (r : Refusal) → enumpure strategic game (Err r) → IsOfContents r
-enumpure-contents true (Strategic table) r h = table_text-contents (Strategic table) r h
-enumpure-contents false (Strategic table) r h = table_text-contents (Strategic table) r h
-enumpure-contents true (Extensive tree) r h = table_text-contents (Extensive tree) r h
-enumpure-contents false (Extensive tree) r (inl h) = subst IsOfContents (sym h.2) (form-contents tree h.0 h.1)
-enumpure-contents false (Extensive tree) r (inr h) = subst IsOfContents (sym h.2.2) (list-contents _ h.2.0 h.2.1)
+choice-contents : (agents perfect : Bool) (t : Tree) (stop : ChoiceStop) → stable_text agents perfect t (Err stop) → IsOfContents (choice_refusal stop)
+choice-contents agents perfect t stop (inl h) = absurd h
+choice-contents agents perfect t stop (inr (nodes, _, inl (inl h))) = subst (λ s. IsOfContents (choice_refusal s)) (sym h.2) refl
+choice-contents agents perfect t stop (inr (nodes, _, inl (inr (_, _, h)))) =
+    fitting-reasons choice_refusal (λ stop. choice_stop.Range stop.0.choice stop.0.node stop.0.player stop.1) (value_steps t) (value_indices t nodes) (λ stop u. u) stop h
+choice-contents agents perfect t stop (inr (nodes, _, inr (_, _, inl h))) = absurd h
+choice-contents agents perfect t stop (inr (nodes, _, inr (_, _, inr (text, _, h)))) = subst (λ s. IsOfContents (choice_refusal s)) (sym h.2) refl
+
+tree_answer-contents : (agents perfect : Bool) (tree : GameTree) → AreContents (tree_answer agents perfect tree)
+tree_answer-contents true perfect tree r h = told-contents choice_refusal (stable_text true perfect (game_of_tree tree)) (choice-contents true perfect (game_of_tree tree)) r h
+tree_answer-contents false true tree r h = told-contents choice_refusal (stable_text false true (game_of_tree tree)) (choice-contents false true (game_of_tree tree)) r h
+tree_answer-contents false false tree r (inl h) = subst IsOfContents (sym h.2) (form-contents tree h.0 h.1)
+tree_answer-contents false false tree r (inr h) = subst IsOfContents (sym h.2.2) (list-contents _ h.2.0 h.2.1)
+
+enumpure-contents : (strategic agents perfect : Bool) (game : Game) → AreContents (enumpure strategic agents perfect game)
+enumpure-contents true agents perfect (Strategic table) = table_text-contents (Strategic table)
+enumpure-contents false agents perfect (Strategic table) = table_text-contents (Strategic table)
+enumpure-contents true agents perfect (Extensive tree) = table_text-contents (Extensive tree)
+enumpure-contents false agents perfect (Extensive tree) = tree_answer-contents agents perfect tree
 
 -- ---- commands
 -- each tool that is built has a line
 pub tool_of-contents : (command : Command) (game : Game) (r : Refusal) → tool_of command game (Err r) → IsOfContents r
-tool_of-contents (Enumpure strategic file) game r h = enumpure-contents strategic game r h
+tool_of-contents (Enumpure strategic agents perfect file) game r h = enumpure-contents strategic agents perfect game r h
 tool_of-contents (Enummixed all workers file) game r h = enummixed-contents all game r h
 tool_of-contents (Lcp strategic file) game r h = lcp-contents strategic game r h
 tool_of-contents (Lp strategic prices file) game r h = lp-contents strategic prices game r h

@@ -3,6 +3,7 @@ use Rattle.std.proofs.Common.{ℕ, Bool, true, false, List, [], slice_index_or}
 use Rattle.answers.specs.Answers.{IsSingle, refused_by, ◌>>=◌}
 use Rattle.answers.proofs.AnswerLemmas.{bind-single, refused_by-single}
 use Rattle.game_core.specs.Table.{game_of as game_of_table}
+use Rattle.game_core.specs.Tree.{GameTree}
 use Rattle.game_core.specs.TreeGame.{game_of_tree}
 use Rattle.game_core.specs.declared.game.Game.{Game}
 use Rattle.game_core.specs.declared.game.Game.TheVariants.{Strategic, Extensive}
@@ -14,12 +15,14 @@ use Rattle.enumpure_trees.proofs.EquilibriumLineLemmas.{text-determined}
 use Rattle.enumpure.specs.Stops.{pure_text}
 use Rattle.enumpure.proofs.OneTextLaws.{pure_text-single, within_text_limit-single}
 use Rattle.words.specs.Words.{Command, Enumpure, Enummixed, Lcp, Lp, Convert, Check, Make}
-use Rattle.refusals.specs.Told.{form_refusal, list_refusal}
+use Rattle.subgames.specs.Stops.{stable_text}
+use Rattle.subgames.proofs.OneTextLaws.{stable_text-single}
+use Rattle.refusals.specs.Told.{choice_refusal, form_refusal, list_refusal}
 use Rattle.two_player_tools.specs.GameTypes.{IsGame}
 use Rattle.two_player_tools.specs.StrategicForms.{strategic_form}
 use Rattle.two_player_tools.proofs.StrategicFormLemmas.{strategic_form-single}
 use Rattle.gambit_tools.specs.Games.{game_in}
-use Rattle.gambit_tools.specs.Enumpure.{enumpure}
+use Rattle.gambit_tools.specs.Enumpure.{enumpure, tree_answer}
 use Rattle.gambit_tools.specs.Commands.{tool_of, game_answer, answer_of}
 use Rattle.gambit_tools.proofs.CheckContentLemmas.{ChecksAreSingle, check-single}
 use Rattle.gambit_tools.proofs.ConvertLaws.{convert-single}
@@ -38,19 +41,27 @@ table_text-single game =
     bind-single (strategic_form game) (λ table. refused_by list_refusal (pure_text (game_of_table table))) (strategic_form-single game)
     (λ table _. refused_by-single list_refusal (pure_text (game_of_table table)) (pure_text-single (game_of_table table)))
 
-enumpure-single : (strategic : Bool) (game : Game) → IsSingle (enumpure strategic game)
-enumpure-single true (Strategic table) = table_text-single (Strategic table)
-enumpure-single false (Strategic table) = table_text-single (Strategic table)
-enumpure-single true (Extensive tree) = table_text-single (Extensive tree)
-enumpure-single false (Extensive tree) =
+choices-single : (agents perfect : Bool) (tree : GameTree) → IsSingle (refused_by choice_refusal (stable_text agents perfect (game_of_tree tree)))
+choices-single agents perfect tree = refused_by-single choice_refusal (stable_text agents perfect (game_of_tree tree)) (stable_text-single agents perfect (game_of_tree tree))
+
+tree-single : (agents perfect : Bool) (tree : GameTree) → IsSingle (tree_answer agents perfect tree)
+tree-single true perfect tree = choices-single true perfect tree
+tree-single false true tree = choices-single false true tree
+tree-single false false tree =
     bind-single (refused_by form_refusal (reduced_form_of tree)) (λ form. refused_by list_refusal (behaviour_text (game_of_tree tree) form.choices))
     (refused_by-single form_refusal (reduced_form_of tree) (form_of-single tree))
     (λ form _. refused_by-single list_refusal (behaviour_text (game_of_tree tree) form.choices) (within_text_limit-single (IsTreeEquilibriaText (game_of_tree tree) form.choices) (text-determined (game_of_tree tree) form.choices)))
 
+enumpure-single : (strategic agents perfect : Bool) (game : Game) → IsSingle (enumpure strategic agents perfect game)
+enumpure-single true agents perfect (Strategic table) = table_text-single (Strategic table)
+enumpure-single false agents perfect (Strategic table) = table_text-single (Strategic table)
+enumpure-single true agents perfect (Extensive tree) = table_text-single (Extensive tree)
+enumpure-single false agents perfect (Extensive tree) = tree-single agents perfect tree
+
 -- ---- commands
 -- each tool that is built has a line
 tool_of-single : (command : Command) (game : Game) → TreesAreGames → RecallsAreSingle → IsGame game → IsSingle (tool_of command game)
-tool_of-single (Enumpure strategic file) game laws recalls w = enumpure-single strategic game
+tool_of-single (Enumpure strategic agents perfect file) game laws recalls w = enumpure-single strategic agents perfect game
 tool_of-single (Enummixed all workers file) game laws recalls w = enummixed-single all game
 tool_of-single (Lcp strategic file) game laws recalls w = lcp-single strategic game laws recalls w
 tool_of-single (Lp strategic prices file) game laws recalls w = lp-single strategic prices game laws recalls w

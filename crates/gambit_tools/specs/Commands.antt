@@ -17,7 +17,7 @@ use Rattle.refusals.specs.declared.refusal.Refusal.{Refusal}
 
 -- the inputs that a command names, in the order in which they are read
 abbrev pub inputs_of : Command → List InputName
-inputs_of (Enumpure strategic file) = file ∷ []
+inputs_of (Enumpure strategic agents perfect file) = file ∷ []
 inputs_of (Enummixed all workers file) = file ∷ []
 inputs_of (Lcp strategic file) = file ∷ []
 inputs_of (Lp strategic prices file) = file ∷ []
@@ -27,7 +27,7 @@ inputs_of (Make number rows columns workers) = []
 
 -- what the tool of a command that reads one game answers for it
 abbrev pub tool_of : Command → Game → Answer Refusal (List ℕ)
-tool_of (Enumpure strategic file) game = enumpure strategic game
+tool_of (Enumpure strategic agents perfect file) game = enumpure strategic agents perfect game
 tool_of (Enummixed all workers file) game = enummixed all game
 tool_of (Lcp strategic file) game = lcp strategic game
 tool_of (Lp strategic prices file) game = lp strategic prices game

@@ -20,9 +20,9 @@ use Rattle.refusals.specs.declared.refusal.Site.{Site}
 -- Each text of `enumpure` lists the pure equilibria, that of `enummixed` the extreme ones, that of `lcp` is
 -- an equilibrium, that of `lp` a solution, that of `check` tells of each line, and that of `make` counts.
 pub record TextsHoldForTheGame : Type 0 where
-  pub enumpure : (strategic : Bool) (file : InputName) (bytes text : List ℕ)
-      → answer_of (Enumpure strategic file) (bytes ∷ []) (Ok text)
-      → (game : Game) × game_in bytes (Ok game) × IsPureText strategic game text
+  pub enumpure : (strategic agents perfect : Bool) (file : InputName) (bytes text : List ℕ)
+      → answer_of (Enumpure strategic agents perfect file) (bytes ∷ []) (Ok text)
+      → (game : Game) × game_in bytes (Ok game) × IsPureText strategic agents perfect game text
   pub enummixed : (all : Bool) (workers : ℕ) (file : InputName) (bytes text : List ℕ)
       → answer_of (Enummixed all workers file) (bytes ∷ []) (Ok text)
       → (game : Game) × game_in bytes (Ok game) × IsExtremeText game text

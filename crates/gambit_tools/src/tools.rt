@@ -51,7 +51,12 @@ fn compute<R: Threads + Sync, I: Inputs, G: Gate>(
         (map_ok result (λ text. text.items)) }
 {
     match settings {
-        Settings::Enumpure { strategic, file } => enumpure(alloc, strategic, file, inputs),
+        Settings::Enumpure {
+            strategic,
+            agents,
+            perfect,
+            file,
+        } => enumpure(alloc, strategic, agents, perfect, file, inputs),
         Settings::Enummixed { all, workers, file } => enummixed(
             rt, alloc, all, workers, file, inputs, gate,
         ),

@@ -3,11 +3,13 @@ pub mod EntryGameExamples
 pub mod EntryLemmas
 pub mod Examples
 pub mod IndexLemmas
+pub mod JoinedProfileLemmas
 pub mod LineOrderLemmas
 pub mod LineTextLemmas
 pub mod NamedChildLemmas
 pub mod OwnSetLemmas
 pub mod PayoffLemmas
+pub mod PlayerSetLemmas
 pub mod PokerExamples
 pub mod ProfileCountLemmas
 pub mod ProfileLineLemmas

@@ -1,5 +1,5 @@
 -- A player's own sets.
-use Rattle.std.proofs.Common.{ℕ, zero, suc, ◌+◌, ◌<◌, ◌≤◌, ◌≡◌, ◌⊎◌, inl, inr, Bool, true, false, Decides, Option, Some, None, List, [], ◌∷◌, ◌++◌, refl, sym, ap, subst, ◌∙◌, add-one, arith}
+use Rattle.std.proofs.Common.{ℕ, zero, suc, ◌+◌, ◌<◌, ◌≤◌, ◌≡◌, ◌⊎◌, inl, inr, Bool, true, false, Decides, Option, Some, None, List, [], ◌∷◌, ◌++◌, length, map, get_or, refl, sym, ap, ap₂, subst, ◌∙◌, add-one, arith}
 use Rattle.std.specs.Prelude.{◌==◌, if◌then◌else◌, filter}
 use Rattle.std.specs.List.{range_with_len}
 use Rattle.std.proofs.lemmas.Bool.{cases_eq, cases_Bool}
@@ -43,6 +43,23 @@ IsAmong-parts [] ys s m = inr m
 IsAmong-parts (x ∷ xs) ys s (inl e) = inl (inl e)
 IsAmong-parts (x ∷ xs) ys s (inr m) = elim (IsAmong-parts xs ys s m) [ inl a ↦ inl (inr a) | inr b ↦ inr b ]
 
+-- what has an index is among the sets
+pub among_at : (sets : List ℕ) (k d : ℕ) → k < length sets → IsAmong sets (get_or sets k d)
+among_at [] k d below = absurd (omega (arith, below))
+among_at (s ∷ sets) zero d below = inl refl
+among_at (s ∷ sets) (suc k) d below = inr (among_at sets k d (omega (arith, below)))
+
+-- the index of one of the sets
+pub index_of : (sets : List ℕ) (s : ℕ) → IsAmong sets s → (j : ℕ) × (j < length sets) × (get_or sets j 0 ≡ s)
+index_of [] s h = absurd h
+index_of (x ∷ sets) s (inl same) = (0, omega arith, same)
+index_of (x ∷ sets) s (inr later) = let found = index_of sets s later in (suc found.0, omega (arith, found.1), found.2)
+
+-- two functions that agree at the elements of a list make the same of it
+pub map-among : (f g : ℕ → ℕ) (xs : List ℕ) → ((x : ℕ) → IsAmong xs x → f x ≡ g x) → map f xs ≡ map g xs
+map-among f g [] h = refl
+map-among f g (x ∷ xs) h = ap₂ (λ y ys. y ∷ ys) (h x (inl refl)) (map-among f g xs (λ y among. h y (inr among)))
+
 -- each set is n or later, and later than those before it
 abbrev pub AscendFrom : ℕ → List ℕ → Type 0
 AscendFrom n [] = Unit {0}
@@ -58,6 +75,25 @@ pub IsAmong-from : (n : ℕ) (sets : List ℕ) (s : ℕ) → AscendFrom n sets �
 IsAmong-from n [] s o h = absurd h
 IsAmong-from n (set ∷ sets) s o (inl e) = omega (arith, o.0)
 IsAmong-from n (set ∷ sets) s o (inr h) = omega (arith, o.0, IsAmong-from (suc set) sets s o.1 h)
+
+-- ---- each set once
+-- no set stands twice
+abbrev pub AreApart : List ℕ → Type 0
+AreApart [] = Unit {0}
+AreApart (s ∷ sets) = (IsAmong sets s → ⊥) × AreApart sets
+
+-- two lists without a common set
+pub AreApart-append : (xs ys : List ℕ) → AreApart xs → AreApart ys → ((s : ℕ) → IsAmong xs s → IsAmong ys s → ⊥) → AreApart (xs ++ ys)
+AreApart-append [] ys one other apart = other
+AreApart-append (x ∷ xs) ys one other apart = (
+  λ h. elim (IsAmong-parts xs ys x h) [ inl first ↦ one.0 first | inr last ↦ apart x (inl refl) last ],
+  AreApart-append xs ys one.1 other (λ s first last. apart s (inr first) last),
+)
+
+-- ascending sets
+pub AreApart-ascending : (n : ℕ) (sets : List ℕ) → AscendFrom n sets → AreApart sets
+AreApart-ascending n [] h = tt
+AreApart-ascending n (s ∷ sets) h = (λ again. absurd (omega (arith, IsAmong-from (suc s) sets s h.1 again)), AreApart-ascending (suc s) sets h.1)
 
 -- ---- numbers that a test picks
 -- one of the numbers that passes the test is among those that do

@@ -5,7 +5,7 @@ use Rattle.game_theory.specs.Profiles.{profile_count}
 use native.Mathlib.Nat as N
 
 -- the number of profiles of two groups of players
-profile_count-append : (ms ns : List ℕ) → profile_count (ms ++ ns) ≡ profile_count ms * profile_count ns
+pub profile_count-append : (ms ns : List ℕ) → profile_count (ms ++ ns) ≡ profile_count ms * profile_count ns
 profile_count-append [] ns = omega arith
 profile_count-append (m ∷ ms) ns = ap (λ x. m * x) (profile_count-append ms ns) ∙ sym (N.mul_assoc m (profile_count ms) (profile_count ns))
 

@@ -1,6 +1,6 @@
 -- A player's own sets, and the nodes at which the player chooses.
 use Rattle.std.specs.Prelude.{ℕ, ◌≡◌, List, length, map, slice_index_or, filter, Option, Some, None}
-use Rattle.std.specs.List.{range_with_len}
+use Rattle.std.specs.List.{flat_map, range_with_len}
 use Rattle.game_theory.specs.Trees.{Tree}
 use Rattle.game_theory.specs.Behaviour.{is_index}
 
@@ -15,6 +15,10 @@ places_with index xs i = numbers_with (λ k. slice_index_or (map index xs) k Non
 -- player i's own sets, in order
 abbrev pub own_sets : Tree → ℕ → List ℕ
 own_sets t i = numbers_with t.owner i t.sets
+
+-- the players' sets: player by player, and in each set by set
+abbrev pub player_sets : Tree → List ℕ
+player_sets t = flat_map (own_sets t) (range_with_len 0 t.players)
 
 -- how many actions each of player i's own sets has
 abbrev pub own_counts : Tree → ℕ → List ℕ

@@ -1,3 +1,4 @@
+pub mod AscendingNumberLemmas
 pub mod ElementLemmas
 pub mod NumberLemmas
 pub mod OptionLemmas

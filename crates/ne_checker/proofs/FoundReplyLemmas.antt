@@ -1,21 +1,16 @@
 -- What the check of one player says of all.
-use Rattle.std.proofs.Common.{ℕ, ◌<◌, ◌≡◌, inl, inr, List, [], ◌∷◌, All, map, get_or, refl, ap₂, ◌∙◌, subst}
+use Rattle.std.proofs.Common.{ℕ, ◌<◌, ◌≡◌, inl, inr, List, All, map, get_or, ◌∙◌, subst}
 use Rattle.rational.specs.Rational.{ℚ, ◌≤ℚ◌, ◌<ℚ◌}
 use Rattle.rational.proofs.Field.{le_or_lt}
 use Rattle.game_theory.specs.Trees.{Tree}
 use Rattle.game_theory.specs.Behaviour.{Behaviour, payoff}
 use Rattle.game_theory.specs.OwnSets.{own_sets}
-use Rattle.game_theory.proofs.OwnSetLemmas.{IsAmong, own_sets-tell}
+use Rattle.game_theory.proofs.OwnSetLemmas.{map-among, own_sets-tell}
 use Rattle.best_replies.specs.Replies.{reply_value, AreBestChoices}
 use Rattle.frac128.specs.Steps.{StepFits}
 use Rattle.ne_checker.specs.TreeSides.{AreChosen}
 use Rattle.ne_checker.specs.TreeSteps.{player_steps}
 use Rattle.ne_checker.specs.TreeVerdicts.{HasNoBetter, IsBetter}
-
--- two functions that agree at the elements of a list make the same of it
-pub map-among : (f g : ℕ → ℕ) (xs : List ℕ) → ((x : ℕ) → IsAmong xs x → f x ≡ g x) → map f xs ≡ map g xs
-map-among f g [] h = refl
-map-among f g (x ∷ xs) h = ap₂ (λ y ys. y ∷ ys) (h x (inl refl)) (map-among f g xs (λ y among. h y (inr among)))
 
 module _ (t : Tree) (b : Behaviour) (i : ℕ) (choice : ℕ → ℕ) (now best : ℚ) (is_best : AreBestChoices t b i choice) (now_is : now ≡ payoff t b i) (best_is : best ≡ reply_value t b i choice 0) (fit : All StepFits (player_steps t b i choice)) where
   -- best choices that do not pay more

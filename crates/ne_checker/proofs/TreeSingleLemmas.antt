@@ -8,7 +8,7 @@ use Rattle.game_theory.specs.Behaviour.{Behaviour, payoff}
 use Rattle.game_theory.specs.FirstNodes.{AreNumberedByFirstNodes}
 use Rattle.game_theory.specs.OwnSets.{own_sets}
 use Rattle.game_theory.specs.Recall.{HasPerfectRecall}
-use Rattle.game_theory.proofs.OwnSetLemmas.{own_sets-tell}
+use Rattle.game_theory.proofs.OwnSetLemmas.{map-among, own_sets-tell}
 use Rattle.game_core.specs.Tree.{GameTree, IsGameTree as is_valid_tree}
 use Rattle.game_core.specs.TreeGame.{game_of_tree}
 use Rattle.best_replies.specs.Replies.{reply_value, AreBestChoices}
@@ -23,7 +23,6 @@ use Rattle.ne_checker.specs.TreeVerdicts.{HasNoBetter, IsBetter, IsOutOfRange, I
 use Rattle.ne_checker.specs.TreeVerdictLaws.{TreeVerdictsAreSingle}
 use Rattle.ne_checker.proofs.AlikeChoiceLemmas.{values-alike, steps-alike}
 use Rattle.ne_checker.proofs.AlikeVerdictLemmas.{verdict-alike}
-use Rattle.ne_checker.proofs.FoundReplyLemmas.{map-among}
 use Rattle.ne_checker.proofs.SameEntryLemmas.{entries-alike}
 
 module _ (t : Tree) (b : Behaviour) (w : IsTree t) (numbered : AreNumberedByFirstNodes t) (recall : (i : ℕ) → i < t.players → HasPerfectRecall t i) where

@@ -2,6 +2,7 @@ pub mod BranchStepLemmas
 pub mod ChoiceLemmas
 pub mod FilledListLemmas
 pub mod IdleNodeLemmas
+pub mod NodeListLemmas
 pub mod NodeStepLemmas
 pub mod NodeValueLemmas
 pub mod PlaceLemmas

@@ -11,8 +11,7 @@ use Rattle.game_theory.specs.Mixed.{sure}
 use Rattle.game_theory.specs.Trees.{Tree, IsTree}
 use Rattle.game_theory.specs.Behaviour.{of_owner, action_probability, value, pure}
 use Rattle.game_theory.proofs.ValueLemmas.{value-by_actions, value-end}
-use Rattle.pure_payoffs.specs.Plays.{steps_at}
-use Rattle.pure_payoffs.specs.Steps.{branch_steps, chance_steps, node_steps, steps_after, steps_to, value_after}
+use Rattle.pure_payoffs.specs.Steps.{branch_steps, chance_steps, node_steps, steps_after, steps_at, steps_to, value_after}
 
 -- the sums of products of probabilities and values, where the values are the same
 pub weighted-same : (n : ℕ) (chances v w : ℕ → ℚ) → ((a : ℕ) → a < n → v a ≡ w a) → sum_to n (λ a. chances a *ℚ v a) ≡ sum_to n (λ a. chances a *ℚ w a)

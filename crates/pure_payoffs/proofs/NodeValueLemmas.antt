@@ -9,8 +9,7 @@ use Rattle.frac128.specs.declared.steps.Op.TheVariants.{Add}
 use Rattle.frac128.specs.declared.steps.Unfit.{Unfit}
 use Rattle.game_theory.specs.Trees.{Tree, IsTree}
 use Rattle.game_theory.specs.Behaviour.{value, pure}
-use Rattle.pure_payoffs.specs.Plays.{steps_at}
-use Rattle.pure_payoffs.specs.Steps.{steps_after, value_after}
+use Rattle.pure_payoffs.specs.Steps.{steps_after, steps_at, value_after}
 use Rattle.pure_payoffs.proofs.NodeStepLemmas.{steps_at-end, steps_at-inner, value-inner, value-last}
 use Rattle.frac128.proofs.StepRunLemmas.{first_unfit-more, added-gives, following-gives}
 

@@ -11,7 +11,10 @@ use Rattle.game_theory.specs.Trees.{Tree, IsTree}
 use Rattle.reduced_strategies.specs.Choices.{IsReduced}
 use Rattle.reduced_strategies.specs.StrategicForm.{list_of, completed}
 use Rattle.reduced_strategies.proofs.StrategyProfileLemmas.{given_at-own, list_of-reduced, place-below, first_actions-complete}
+use Rattle.pure_payoffs.specs.Choices.{AreChoices, AreReduced, chosen_by}
 use Rattle.pure_payoffs.specs.Plays.{IsPlay}
+use Rattle.pure_payoffs.specs.declared.choices.Choices.{Choices}
+use Rattle.pure_payoffs.specs.declared.choices.Choices.TheVariants.{Actions, Reduced}
 use Rattle.pure_payoffs.proofs.ChoiceLemmas.{choice_at-place}
 use Rattle.pure_payoffs.proofs.FilledListLemmas.{list-read}
 
@@ -32,15 +35,19 @@ child-found f t lists k s a d c w h l e m is =
     let later = child-later t k s a w l e m in
     (same, omega (arith, later.0, same), omega (arith, later.1, same))
 
-module _ (t : Tree) (children : List (List ℕ)) (places : List ℕ) (strategies : List (List (List ℕ))) (profile : List ℕ) (h : IsPlay t children places strategies profile) where
-  -- a play's profile gives each set of a player one of its actions
-  pub play-chooses : (s i : ℕ) → s < t.sets → t.owner s ≡ Some i → completed t strategies profile s < t.actions s
-  play-chooses s i l o = (first_actions-complete t strategies profile h.tree h.strategies_are h.is_profile s i l o).0
+-- a play gives each set of a player one of its actions
+pub play-chooses : (t : Tree) (children : List (List ℕ)) (choices : Choices) → IsPlay t children choices → (s i : ℕ) → s < t.sets → t.owner s ≡ Some i → chosen_by t choices s < t.actions s
+play-chooses t children choices h s i l o = go choices h.choices_are
+  where
+    go : (choices : Choices) → AreChoices t choices → chosen_by t choices s < t.actions s
+    go (Reduced places strategies profile) are = (first_actions-complete t _ profile.now h.tree are.strategies_are are.is_profile s i l o).0
+    go (Actions actions) are = are.are_actions s i l o
 
+module _ (t : Tree) (places : List ℕ) (strategies : List (List (List ℕ))) (profile : List ℕ) (w : IsTree t) (h : AreReduced t places strategies profile) where
   module _ (s i : ℕ) (l : s < t.sets) (o : t.owner s ≡ Some i) where
     -- the owner of a set has strategies
     pub owner-strategies : i < length strategies
-    owner-strategies = omega (arith, h.strategies_are.one_for_each, h.tree.owners_within s i l o)
+    owner-strategies = omega (arith, h.strategies_are.one_for_each, w.owners_within s i l o)
 
     -- the owner of a set plays a strategy
     pub owner-plays : i < length profile
@@ -48,11 +55,11 @@ module _ (t : Tree) (children : List (List ℕ)) (places : List ℕ) (strategies
 
     -- which is one of the owner's
     pub strategy-within : get_or profile i 0 < length (get_or strategies i [])
-    strategy-within = place-below t strategies profile i h.strategies_are h.is_profile (h.tree.owners_within s i l o)
+    strategy-within = place-below t strategies profile i h.strategies_are h.is_profile (w.owners_within s i l o)
 
     -- the strategy is reduced
     strategy-reduced : IsReduced t i (list_of strategies profile i)
-    strategy-reduced = list_of-reduced t strategies profile i h.strategies_are h.is_profile (h.tree.owners_within s i l o)
+    strategy-reduced = list_of-reduced t strategies profile i h.strategies_are h.is_profile (w.owners_within s i l o)
 
     -- it has a choice at the set's place
     pub place-within : get_or places s 0 < length (list_of strategies profile i)

@@ -8,7 +8,7 @@ use Rattle.frac128.specs.declared.steps.Unfit.{Unfit}
 use Rattle.game_theory.specs.Trees.{Tree, IsTree}
 use Rattle.game_theory.specs.Behaviour.{value, pure}
 use Rattle.frac128.specs.Steps.{StepsGive}
-use Rattle.pure_payoffs.specs.Plays.{steps_at}
+use Rattle.pure_payoffs.specs.Steps.{steps_at}
 use Rattle.pure_payoffs.specs.Shortcuts.{OnlyLeadsTo, StandsFor}
 use Rattle.pure_payoffs.proofs.NodeValueLemmas.{owned-gives, following-refused, node-added}
 

@@ -1,4 +1,5 @@
 pub mod ChildLists
+pub mod Choices
 pub mod Plays
 pub mod Settled
 pub mod Shortcuts

@@ -1,5 +1,5 @@
--- Nodes in whose subtrees no player chooses: what they give is the same for every profile.
-use Rattle.std.specs.Prelude.{ℕ, ◌<◌, ◌≡◌, Bool, true, false, List, [], length, map, slice_index_or, Option, Some, None, IfSome, Ok}
+-- Nodes in whose subtrees no player chooses: what they give is the same for all choices.
+use Rattle.std.specs.Prelude.{ℕ, ◌<◌, ◌≡◌, Bool, true, false, List, [], length, map, slice_index_or, Option, None, IfSome, Ok}
 use Rattle.rational.specs.Rational.{ℚ}
 use Rattle.game_theory.specs.Trees.{Tree, IsWithin}
 use Rattle.game_theory.specs.OwnSets.{NobodyChooses}
@@ -24,7 +24,7 @@ pub record AreSettledNodes (t : Tree) (idle : List Bool) : Type 0 where
   pub one_for_each : length idle ≡ t.size
   pub settled : (k : ℕ) → k < t.size → slice_index_or idle k false ≡ true → IsSettled t k
 
--- a place for what node k is worth to player i, where that is the same for every profile
+-- a place for what node k is worth to player i, where that is the same for all choices
 pub record IsPlace (t : Tree) (k i : ℕ) (place : Option ℚ) : Type 0 where
   pub settled : IsSettled t k
   pub value : IfSome place (Settles t i k)
@@ -34,6 +34,6 @@ pub record HavePlaces (t : Tree) (n : ℕ) (lists : List (List (Option ℚ))) : 
   pub one_for_each : length lists ≡ n
   pub places : (k i : ℕ) → k < n → i < length (slice_index_or lists k []) → IsPlace t k i (slice_index_or (slice_index_or lists k []) i None)
 
--- the values that are kept are right for every profile
+-- the values that are kept are right for all choices
 abbrev pub KeepValues : Tree → Settled → Type 0
 KeepValues t settled = HavePlaces t t.size (map (λ v. v.items) settled.places.items)

@@ -1,4 +1,4 @@
--- Nodes at which the profile only leads on: what the node after gives, they give as well.
+-- Nodes at which the choices only lead on: what the node after gives, they give as well.
 use Rattle.std.specs.Prelude.{ℕ, ◌<◌, ◌≤◌, ◌≡◌, length, slice_index, Some, Result, IfOk}
 use Rattle.game_theory.specs.Children.{child}
 use Rattle.rational.specs.Rational.{ℚ, zero_ℚ}
@@ -8,7 +8,7 @@ use Rattle.game_theory.specs.Trees.{Tree}
 use Rattle.game_theory.specs.Behaviour.{value, pure}
 use Rattle.pure_payoffs.specs.declared.shortcuts.Entries.{Entries}
 use Rattle.frac128.specs.Steps.{StepsGive}
-use Rattle.pure_payoffs.specs.Plays.{steps_at}
+use Rattle.pure_payoffs.specs.Steps.{steps_at}
 use Rattle.pure_payoffs.specs.Settled.{KeepValues}
 
 -- at node k a player chooses and nothing is paid, and the choice leads to node c
@@ -30,7 +30,8 @@ pub record StandsFor (t : Tree) (choice : ℕ → ℕ) (k s : ℕ) : Type 0 wher
       → StepsGive (steps_at t choice i s) (value t (pure choice) i s) result
       → StepsGive (steps_at t choice i k) (value t (pure choice) i k) result
 
--- there is room for the nodes, no entry is from a later round, and the values that are kept are right for every profile
+-- there is room for the nodes, no entry is from a later round, and the values that are kept are
+-- right for all choices
 pub record HasRoom (t : Tree) (entries : Entries) : Type 0 where
   pub rounds_long : length entries.rounds.items ≡ t.size
   pub targets_long : length entries.targets.items ≡ t.size

@@ -1,4 +1,4 @@
--- The steps in which a pure profile's payoff on a tree is computed.
+-- The steps in which the value of a node is computed, where this is the choice at each set.
 use Rattle.std.specs.Prelude.{ℕ, zero, suc, if◌then◌else◌, List, [], ◌∷◌, ◌++◌, Option, Some, None}
 use Rattle.game_theory.specs.Children.{child}
 use Rattle.rational.specs.Tests.{eq_ℚ}
@@ -49,6 +49,10 @@ abbrev pub steps_to : Tree → (ℕ → ℕ) → ℕ → ℕ → ℕ → List St
 steps_to t choice i zero k = []
 steps_to t choice i (suc d) k = node_steps t choice i (steps_to t choice i d) k (t.set k)
 
--- the steps of player i's payoff, where this is the choice at each set
+-- the steps of node k's value for player i, where this is the choice at each set
+abbrev pub steps_at : Tree → (ℕ → ℕ) → ℕ → ℕ → List Step
+steps_at t choice i k = steps_to t choice i t.size k
+
+-- the steps of player i's payoff
 abbrev pub payoff_steps : Tree → (ℕ → ℕ) → ℕ → List Step
-payoff_steps t choice i = steps_to t choice i t.size 0
+payoff_steps t choice i = steps_at t choice i 0

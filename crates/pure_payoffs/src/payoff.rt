@@ -1,27 +1,39 @@
-// The payoff of a pure profile.
+// What a choice at each set pays.
 ghost use Rattle.std.specs.Prelude.{◌≡◌, ◌<◌, length};
 ghost use Rattle.frac128.specs.Fraction.{Fits};
 ghost use Rattle.game_theory.specs.Children.{AreChildren};
+ghost use Rattle.pure_payoffs.specs.Stops.{at_node};
 
+use crate::choices::Choices;
 use crate::shortcuts::{Entries, Shortcuts};
-use crate::stop::PayoffStop;
+use crate::stop::{PayoffStop, ValueStop};
 use frac128::{Frac, Unfit};
 use game_core::Tree;
 use game_core::tree_parts::{action_count, owner, pays, probability, set, stands_for_game_tree};
 
-/// A pure profile of reduced strategies on a tree. Players, nodes, sets and strategies are numbered from 0.
+/// One action at each player's set of a tree.
 #[derive(Clone, Copy, Debug)]
 pub struct Play<'a> {
     /// The tree.
     pub tree: &'a Tree,
     /// For each node its children, one for each action of its set in order.
     pub children: &'a [Vec<u32>],
-    /// For each set its place among its owner's own sets.
-    pub places: &'a [u32],
-    /// For each player the reduced strategies, and in each for each own set its action, counted from 1, or 0.
-    pub strategies: &'a [Vec<Vec<u32>>],
-    /// For each player the number of the strategy.
-    pub profile: &'a [u32],
+    /// The actions.
+    pub choices: Choices<'a>,
+}
+
+// Why the values of nodes were not computed, by why those of this node were not.
+fn at_node(node: u32, stop: PayoffStop) -> ValueStop
+    ensures { result ≡ at_node node stop }
+{
+    match stop {
+        PayoffStop::Range { player, unfit } => ValueStop::Range {
+            node,
+            player,
+            unfit,
+        },
+        PayoffStop::Memory => ValueStop::Memory,
+    }
 }
 
 // A fraction fits. Does nothing.
@@ -32,27 +44,26 @@ fn fits(value: Frac)
 }
 
 impl<'a> Play<'a> {
-    ghost use Rattle.std.specs.Prelude.{◌≡◌, ◌<◌, ◌++◌, length, map, Some, None, OnOk};
+    ghost use Rattle.std.specs.Prelude.{◌≡◌, ◌<◌, ◌++◌, All, length, map, Some, None, OnOk};
     ghost use Rattle.rational.specs.Rational.{◌+ℚ◌, ◌*ℚ◌};
     ghost use Rattle.answers.specs.Answers.{Gives};
     ghost use Rattle.game_theory.specs.Lines.{listed};
-    ghost use Rattle.game_theory.specs.Profiles.{IsProfile};
     ghost use Rattle.game_theory.specs.Behaviour.{payoff, pure, value};
-    ghost use Rattle.reduced_strategies.specs.Places.{ArePlaces};
-    ghost use Rattle.reduced_strategies.specs.StrategicForm.{AreStrategies};
-    ghost use Rattle.pure_payoffs.specs.Plays.{IsPlayed, game_of, strategies_of, choice_of, steps_at};
+    ghost use Rattle.pure_payoffs.specs.Choices.{AreChoices};
+    ghost use Rattle.pure_payoffs.specs.Plays.{IsPlayed, choice_of, game_of};
     ghost use Rattle.pure_payoffs.specs.Shortcuts.{KeepShortcuts};
     ghost use Rattle.frac128.specs.Steps.{StepsGive};
-    ghost use Rattle.pure_payoffs.specs.Steps.{branch_steps, steps_after, value_after};
-    ghost use Rattle.pure_payoffs.specs.Stops.{payoffs_in};
+    ghost use Rattle.pure_payoffs.specs.Steps.{branch_steps, steps_after, steps_at, value_after};
+    ghost use Rattle.pure_payoffs.specs.Stops.{all_values_in, node_values, payoffs_in, values_of};
     ghost use Rattle.pure_payoffs.specs.declared.stop.PayoffStop.TheVariants as stops;
+    ghost use Rattle.pure_payoffs.specs.declared.stop.ValueStop.TheVariants as value_stops;
 
-    /// Adds to a list what the profile pays each player in order, where the first action is taken at each set to
-    /// which the player's strategy gives none. `shortcuts` are those of the tree.
+    /// Adds to a list what the choices pay each player in order. `shortcuts` are those of the tree.
     ///
     /// # Errors
     ///
-    /// `Range` exactly where a step does not fit: the first, players in order. `Memory` where memory ran out.
+    /// `Range` exactly where a step does not fit: the first, players in order. `Memory` where
+    /// memory ran out.
     pub fn push_payoffs(
         &self,
         shortcuts: &mut Shortcuts,
@@ -60,9 +71,7 @@ impl<'a> Play<'a> {
     ) -> Result<(), PayoffStop>
         requires children { AreChildren (game_of self.now)
             (map (λ v. v.items) self.now.children.now) }
-        requires places { ArePlaces (game_of self.now) self.now.places.now }
-        requires strategies { AreStrategies (game_of self.now) (strategies_of self.now) }
-        requires profile { IsProfile (map length (strategies_of self.now)) self.now.profile.now }
+        requires choices { AreChoices (game_of self.now) self.now.choices }
         requires tree { shortcuts.old ≡ self.now.tree.now }
         ensures tree { shortcuts.new ≡ shortcuts.old }
         ensures pays { let t = game_of self.now in
@@ -74,31 +83,91 @@ impl<'a> Play<'a> {
     {
         stands_for_game_tree(self.tree);
         shortcuts.entries.forget();
-        self.push_values(&mut shortcuts.entries, payoffs)
+        self.push_values(&mut shortcuts.entries, 0, payoffs)
     }
 
-    // The same with the entries of this profile.
-    fn push_values(&self, entries: &mut Entries, payoffs: &mut Vec<Frac>) -> Result<(), PayoffStop>
+    /// Adds to a list what each of these nodes is worth to each player under the choices: node by
+    /// node, and in each player by player. `shortcuts` are those of the tree.
+    ///
+    /// # Errors
+    ///
+    /// `Range` exactly where a step does not fit: the first in this order. `Memory` where memory
+    /// ran out.
+    pub fn push_all_values(
+        &self,
+        shortcuts: &mut Shortcuts,
+        nodes: &[u32],
+        values: &mut Vec<Frac>,
+    ) -> Result<(), ValueStop>
+        requires children { AreChildren (game_of self.now)
+            (map (λ v. v.items) self.now.children.now) }
+        requires choices { AreChoices (game_of self.now) self.now.choices }
+        requires nodes { All (λ k. k < length self.now.tree.now.nodes) nodes.now }
+        requires tree { shortcuts.old ≡ self.now.tree.now }
+        ensures tree { shortcuts.new ≡ shortcuts.old }
+        ensures values { OnOk result (values.new.items ≡ values.old.items
+            ++ node_values (game_of self.now) (choice_of self.now) nodes.now) }
+        ensures stop { Gives value_stops.Memory
+            (all_values_in (game_of self.now) (choice_of self.now) nodes.now) result }
+    {
+        stands_for_game_tree(self.tree);
+        shortcuts.entries.forget();
+        self.push_each(&mut shortcuts.entries, nodes, values)
+    }
+
+    // The same with the entries of these choices.
+    fn push_each(
+        &self,
+        entries: &mut Entries,
+        nodes: &[u32],
+        values: &mut Vec<Frac>,
+    ) -> Result<(), ValueStop>
         requires play { IsPlayed self.now }
+        requires nodes { All (λ k. k < length self.now.tree.now.nodes) nodes.now }
         requires keep { KeepShortcuts (game_of self.now) (choice_of self.now) entries.old }
         ensures keep { KeepShortcuts (game_of self.now) (choice_of self.now) entries.new }
-        ensures pays { let t = game_of self.now in
+        ensures values { OnOk result (values.new.items ≡ values.old.items
+            ++ node_values (game_of self.now) (choice_of self.now) nodes.now) }
+        ensures stop { Gives value_stops.Memory
+            (all_values_in (game_of self.now) (choice_of self.now) nodes.now) result }
+    {
+        for node in nodes {
+            match self.push_values(entries, *node, values) {
+                Ok(()) => {}
+                Err(stop) => return Err(at_node(*node, stop)),
+            }
+        }
+        Ok(())
+    }
+
+    // Adds what a node is worth to each player in order, with the entries of these choices.
+    fn push_values(
+        &self,
+        entries: &mut Entries,
+        node: u32,
+        values: &mut Vec<Frac>,
+    ) -> Result<(), PayoffStop>
+        requires play { IsPlayed self.now }
+        requires node { node < length self.now.tree.now.nodes }
+        requires keep { KeepShortcuts (game_of self.now) (choice_of self.now) entries.old }
+        ensures keep { KeepShortcuts (game_of self.now) (choice_of self.now) entries.new }
+        ensures values { let t = game_of self.now in
             let choice = choice_of self.now in
-            OnOk result
-            (payoffs.new.items ≡ payoffs.old.items ++ listed t.players (payoff t (pure choice))) }
+            OnOk result (values.new.items
+            ≡ values.old.items ++ listed t.players (λ i. value t (pure choice) i node)) }
         ensures stop { Gives stops.Memory
-            (payoffs_in (game_of self.now) (choice_of self.now)) result }
+            (values_of (game_of self.now) (choice_of self.now) node) result }
     {
         for player in 0..self.tree.players().len() as u32 {
-            match self.value(entries, 0, player) {
-                Ok(payoff) => payoffs.push(payoff)?,
+            match self.value(entries, node, player) {
+                Ok(value) => values.push(value)?,
                 Err(unfit) => return Err(PayoffStop::Range { player, unfit }),
             }
         }
         Ok(())
     }
 
-    // What the profile pays a player from a node on.
+    // What the choices pay a player from a node on.
     #[cycle(values)]
     fn value(&self, entries: &mut Entries, node: u32, player: u32) -> Result<Frac, Unfit>
         requires play { IsPlayed self.now }
@@ -140,7 +209,7 @@ impl<'a> Play<'a> {
         }
     }
 
-    // What the profile pays a player after a node with this set.
+    // What the choices pay a player after a node with this set.
     #[cycle(values)]
     fn value_after(
         &self,
@@ -227,16 +296,25 @@ impl<'a> Play<'a> {
         sum.add(prob.mul(value)?)
     }
 
-    // The action, numbered from 0, that the owner of a set takes there.
+    // The action that the owner of a set takes there.
     pub(crate) fn action_at(&self, owner: u32, set: u32) -> usize
         requires play { IsPlayed self.now }
         requires set { set < length self.now.tree.now.sets }
         requires owner { (game_of self.now).owner set ≡ Some owner }
         ensures { result ≡ choice_of self.now set }
     {
-        let number = self.profile[owner as usize];
-        let strategy = &self.strategies[owner as usize][number as usize];
-        let place = self.places[set as usize];
-        (strategy[place as usize] as usize).saturating_sub(1)
+        match self.choices {
+            Choices::Reduced {
+                places,
+                strategies,
+                profile,
+            } => {
+                let number = profile[owner as usize];
+                let strategy = &strategies[owner as usize][number as usize];
+                let place = places[set as usize];
+                (strategy[place as usize] as usize).saturating_sub(1)
+            }
+            Choices::Actions(actions) => actions[set as usize] as usize,
+        }
     }
 }

@@ -1,4 +1,4 @@
-// Shortcuts past nodes at which a profile only leads on.
+// Shortcuts past nodes at which the choices only lead on.
 ghost use Rattle.std.specs.Prelude.{◌≡◌, ◌<◌, ℕ, length, MatchOption, ⊤, IfOk, IfSome, Ok};
 ghost use Rattle.game_theory.specs.Trees.{Tree as game_tree};
 ghost use Rattle.game_core.specs.TreeGame.{game_of_tree};
@@ -13,8 +13,8 @@ use game_core::{Kind, Tree};
 use std::alloc::Global;
 use std::marker::Model;
 
-// For nodes of a tree the first node from there on, along the choices of a profile, at which something is paid or no
-// player chooses: as far as such nodes were asked for since the last `forget`.
+// For nodes of a tree the first node from there on, along the choices, at which something is paid
+// or no player chooses: as far as such nodes were asked for since the last `forget`.
 #[derive(Drop)]
 pub(crate) struct Entries {
     // The present round, from 1.
@@ -23,11 +23,11 @@ pub(crate) struct Entries {
     rounds: Vec<u32>,
     // For each node its entry.
     targets: Vec<u32>,
-    // What no profile changes.
+    // What no choice changes.
     settled: Settled,
 }
 
-// The node to which the profile leads from a node at which a player chooses and nothing is paid.
+// The node to which the choices lead from a node at which a player chooses and nothing is paid.
 fn next(play: &Play, node: u32) -> Option<u32>
     requires play { IsPlayed play.now }
     requires node { node < length play.now.tree.now.nodes }
@@ -74,7 +74,7 @@ impl Entries {
         })
     }
 
-    // Forgets all entries, and keeps what no profile changes.
+    // Forgets all entries, and keeps what no choice changes.
     pub(crate) fn forget(&mut self)
         ensures { (t : game_tree) (choice : ℕ → ℕ) → HasRoom t self.old
             → KeepShortcuts t choice self.new }
@@ -104,7 +104,7 @@ impl Entries {
         target
     }
 
-    // What a node is worth to a player whatever the profile, where that is kept.
+    // What a node is worth to a player whatever the choices, where that is kept.
     pub(crate) fn settled_value(&self, play: &Play, node: u32, player: u32) -> Option<Frac>
         requires play { IsPlayed play.now }
         requires node { node < length play.now.tree.now.nodes }
@@ -115,7 +115,7 @@ impl Entries {
         self.settled.value(node, player)
     }
 
-    // Keeps what a node is worth to a player, where no profile changes that.
+    // Keeps what a node is worth to a player, where no choice changes that.
     pub(crate) fn settle(&mut self, play: &Play, node: u32, player: u32, worth: Frac)
         requires play { IsPlayed play.now }
         requires node { node < length play.now.tree.now.nodes }
@@ -127,7 +127,7 @@ impl Entries {
     }
 }
 
-/// What is kept of a tree from profile to profile, so that not every node is visited for each.
+/// What is kept of a tree from choices to choices, so that not every node is visited for each.
 #[derive(Drop)]
 pub struct Shortcuts<'a> {
     tree: &'a Tree,
@@ -147,7 +147,7 @@ impl<'a> Model for Shortcuts<'a> {
 }
 
 impl<'a> Shortcuts<'a> {
-    /// Those of a tree, before its first profile.
+    /// Those of a tree, before its first choices.
     pub fn new(alloc: Global, tree: &'a Tree) -> Result<Shortcuts<'a>, Memory>
         ensures { IfOk result (λ shortcuts. shortcuts ≡ tree.now) }
     {

@@ -1,12 +1,28 @@
-// Why what a profile pays was not computed.
+// Why what choices pay was not computed.
 use frac128::Unfit;
 use std::alloc::AllocFailed;
 
-/// Why what a profile pays was not computed.
+/// Why what choices pay was not computed.
 #[derive(Clone, Copy, Debug, PartialEq, Eq)]
 pub enum PayoffStop {
     /// A step of a player's payoff does not fit: the first, players in order.
     Range {
+        /// The player, from 0.
+        player: u32,
+        /// The step.
+        unfit: Unfit,
+    },
+    /// Memory ran out.
+    Memory,
+}
+
+/// Why what nodes are worth was not computed.
+#[derive(Clone, Copy, Debug, PartialEq, Eq)]
+pub enum ValueStop {
+    /// A step of a value does not fit: the first, nodes in order, and in each players in order.
+    Range {
+        /// The node, from 0.
+        node: u32,
         /// The player, from 0.
         player: u32,
         /// The step.

@@ -7,21 +7,28 @@ use Rattle.std.proofs.lemmas.List.Elements.{All-map}
 use Rattle.std.proofs.lemmas.List.FromFn.{get_or-range_with_len, length-range_with_len}
 use Rattle.std.proofs.lemmas.Nat.{div-mul-add, mod-mul-add}
 use Rattle.std.proofs.lemmas.Option.{slice_get-get_or}
-use Rattle.answers.specs.Answers.{Gives}
+use Rattle.answers.specs.Answers.{Answer, Gives, refused_by}
 use Rattle.rational.specs.Rational.{ℚ, zero_ℚ}
 use Rattle.game_theory.specs.Lines.{listed}
 use Rattle.game_theory.proofs.ProfileLineLemmas.{get_or-listed, length-listed}
-use Rattle.game_theory.specs.Profiles.{profile_count}
+use Rattle.game_theory.specs.Profiles.{profile_at, profile_count}
 use Rattle.game_theory.specs.Trees.{Tree}
-use Rattle.reduced_strategies.specs.StrategicForm.{strategic_form}
+use Rattle.reduced_strategies.specs.StrategicForm.{completed, strategic_form}
+use Rattle.pure_payoffs.specs.Stops.{payoffs_in}
 use Rattle.frac128.specs.Steps.{Step}
 use Rattle.frac128.specs.FirstUnfit.{StepsFit}
 use Rattle.frac128.proofs.UnfitListLemmas.{first_of-map, parts_fit, first_of-part}
-use Rattle.reduced_form.specs.Cells.{AreCells, at_profile, profile_cells_in}
+use Rattle.reduced_form.specs.Cells.{AreCells, at_profile}
 use Rattle.reduced_form.specs.Limits.{Place, cell_steps, cells}
 use Rattle.reduced_form.specs.Stops.{cells_in}
 use Rattle.reduced_form.specs.declared.stop.ReduceStop.{ReduceStop}
 use Rattle.reduced_form.specs.declared.stop.ReduceStop.TheVariants as stops
+
+-- the steps of the cells of the profile with number k all fit; or the first that does not
+abbrev pub profile_cells_in : Tree → List (List (List ℕ)) → ℕ → Answer ReduceStop (Unit {0})
+profile_cells_in t strategies k =
+    refused_by (at_profile k)
+    (payoffs_in t (completed t strategies (profile_at (map length strategies) k)))
 
 -- a row and a column tell a place
 place-tells : (n k i m j : ℕ) → i < n → j < n → k * n + i ≡ m * n + j → (k ≡ m) × (i ≡ j)

@@ -1,14 +1,17 @@
 // The payoffs of a reduced form.
-ghost use Rattle.std.specs.Prelude.{◌≡◌, ◌<◌, ◌≤◌, ◌*◌, ◌++◌, length, map, IfOk, OnOk};
-ghost use Rattle.answers.specs.Answers.{Gives, map_ok};
-ghost use Rattle.game_theory.specs.Profiles.{profile_count, profile_at};
+ghost use Rattle.std.specs.Prelude.{◌≡◌, ◌≤◌, ◌*◌, ◌++◌, length, map, IfOk, OnOk};
+ghost use Rattle.answers.specs.Answers.{Gives, map_ok, refused_by};
+ghost use Rattle.game_theory.specs.Behaviour.{payoff, pure};
+ghost use Rattle.game_theory.specs.Profiles.{profile_count};
 ghost use Rattle.game_core.specs.Table.{most_payoffs};
 ghost use Rattle.game_core.specs.TreeGame.{game_of_tree};
 ghost use Rattle.game_theory.specs.Lines.{listed};
-ghost use Rattle.pure_payoffs.specs.Plays.{game_of, strategies_of};
+ghost use Rattle.pure_payoffs.specs.Choices.{AreChoices};
+ghost use Rattle.pure_payoffs.specs.Plays.{choice_of, game_of};
+ghost use Rattle.pure_payoffs.specs.Stops.{payoffs_in};
 ghost use Rattle.reduced_strategies.specs.Places.{ArePlaces};
-ghost use Rattle.reduced_strategies.specs.StrategicForm.{AreStrategies, strategic_form};
-ghost use Rattle.reduced_form.specs.Cells.{AreCells, at_profile, profile_cells_in};
+ghost use Rattle.reduced_strategies.specs.StrategicForm.{AreStrategies};
+ghost use Rattle.reduced_form.specs.Cells.{AreCells, at_profile};
 ghost use Rattle.reduced_form.specs.Stops.{cells_in};
 ghost use Rattle.reduced_form.specs.declared.stop.ReduceStop.TheVariants as stops;
 ghost use Rattle.game_theory.specs.Children.{AreChildren};
@@ -17,7 +20,7 @@ use crate::stop::ReduceStop;
 use crate::strategies::Strategies;
 use frac128::Frac;
 use game_core::{Tree, profile_count, set_profile, trees_are_game_trees};
-use pure_payoffs::{PayoffStop, Play, Shortcuts, children_of_all};
+use pure_payoffs::{Choices, PayoffStop, Play, Shortcuts, children_of_all};
 use std::alloc::Global;
 
 // Why a form has no payoffs, by why the profile with this number has none.
@@ -34,7 +37,7 @@ fn at_profile(profile: u32, stop: PayoffStop) -> ReduceStop
     }
 }
 
-// Adds what a profile pays each player.
+// Adds what the profile with this number pays each player.
 fn push_cells(
     play: &Play,
     shortcuts: &mut Shortcuts,
@@ -43,18 +46,16 @@ fn push_cells(
 ) -> Result<(), ReduceStop>
     requires children { AreChildren (game_of play.now)
         (map (λ v. v.items) play.now.children.now) }
-    requires places { ArePlaces (game_of play.now) play.now.places.now }
-    requires strategies { AreStrategies (game_of play.now) (strategies_of play.now) }
-    requires number { number < profile_count (map length (strategies_of play.now)) }
-    requires profile { play.now.profile.now
-        ≡ profile_at (map length (strategies_of play.now)) number }
+    requires choices { AreChoices (game_of play.now) play.now.choices }
     requires tree { shortcuts.old ≡ play.now.tree.now }
     ensures tree { shortcuts.new ≡ shortcuts.old }
     ensures cells { let t = game_of play.now in
-        OnOk result (payoffs.new.items ≡ payoffs.old.items
-        ++ listed t.players (λ i. (strategic_form t (strategies_of play.now)).pays i number)) }
+        let choice = choice_of play.now in
+        OnOk result
+        (payoffs.new.items ≡ payoffs.old.items ++ listed t.players (payoff t (pure choice))) }
     ensures stop { Gives stops.Memory
-        (profile_cells_in (game_of play.now) (strategies_of play.now) number) result }
+        (refused_by (at_profile number) (payoffs_in (game_of play.now) (choice_of play.now)))
+        result }
 {
     match play.push_payoffs(shortcuts, payoffs) {
         Ok(()) => Ok(()),
@@ -91,12 +92,15 @@ pub fn cells(
     let mut payoffs = Vec::with_capacity(alloc, players * profiles)?;
     for number in 0..profiles {
         set_profile(&mut profile, counts, number);
-        let play = Play {
-            tree,
-            children: &children,
+        let choices = Choices::Reduced {
             places,
             strategies: strategies.lists(),
             profile: &profile,
+        };
+        let play = Play {
+            tree,
+            children: &children,
+            choices,
         };
         push_cells(&play, &mut shortcuts, &mut payoffs, number as u32)?;
     }

@@ -1,3 +1,4 @@
+pub mod ChoiceListLemmas
 pub mod CompletionLemmas
 pub mod ExistenceLemmas
 pub mod HistoryLemmas

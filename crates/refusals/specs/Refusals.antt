@@ -98,10 +98,13 @@ what_text what.Text = codes "bytes of text"
 abbrev pub spaced : List ℕ → List ℕ
 spaced numbers = flat_map (λ n. codes " " ++ decimal n) numbers
 
--- where a step stands; profiles, nodes, players, rows of a start and polytopes are counted from 1,
+-- where a step stands; profiles, choices, nodes, players, rows of a start and polytopes are counted from 1,
 -- as lines are everywhere, levels and sequences from 0: sequence 0 is the empty one
 abbrev pub site_text : Site → List ℕ
 site_text (site.Cell profile player) = codes "profile " ++ decimal (profile + 1) ++ codes " player " ++ decimal (player + 1)
+site_text (site.Choice choice node player) =
+    codes "choice " ++ decimal (choice + 1) ++ codes " node " ++ decimal (node + 1)
+    ++ codes " player " ++ decimal (player + 1)
 site_text (site.Place place) = codes "place " ++ decimal (place + 1)
 site_text (site.Sum place) = codes "sum " ++ decimal (place + 1)
 site_text (site.Gain row column) =

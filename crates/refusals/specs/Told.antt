@@ -7,6 +7,8 @@ use Rattle.efg_reader.specs.declared.fault.EfgStop.{EfgStop}
 use Rattle.efg_reader.specs.declared.fault.EfgStop.TheVariants as efg_stop
 use Rattle.reduced_form.specs.declared.stop.ReduceStop.{ReduceStop}
 use Rattle.reduced_form.specs.declared.stop.ReduceStop.TheVariants as reduce_stop
+use Rattle.subgames.specs.declared.stop.ChoiceStop.{ChoiceStop}
+use Rattle.subgames.specs.declared.stop.ChoiceStop.TheVariants as choice_stop
 use Rattle.enumpure.specs.declared.listing.ListStop.{ListStop}
 use Rattle.enumpure.specs.declared.listing.ListStop.TheVariants as list_stop
 use Rattle.enummixed.specs.declared.stop.MixedStop.{MixedStop}
@@ -60,6 +62,12 @@ form_refusal reduce_stop.Memory = refusal.Memory
 abbrev pub list_refusal : ListStop → Refusal
 list_refusal (list_stop.TooLarge limit) = limit_refusal limit
 list_refusal list_stop.Memory = refusal.Memory
+
+abbrev pub choice_refusal : ChoiceStop → Refusal
+choice_refusal (choice_stop.TooLarge limit) = limit_refusal limit
+choice_refusal (choice_stop.Range choice node player step) =
+    refusal.Range (site.Choice choice node player) step
+choice_refusal choice_stop.Memory = refusal.Memory
 
 -- ---- tools for two players
 abbrev pub recall_refusal : RecallStop → Refusal

@@ -1,5 +1,5 @@
 // The texts of refusals.
-ghost use Rattle.std.specs.Prelude.{◌≡◌, ◌++◌, IfOk, string_bytes};
+ghost use Rattle.std.specs.Prelude.{◌≡◌, ◌+◌, ◌++◌, IfOk, string_bytes};
 ghost use Rattle.std.specs.Fmt.{decimal};
 ghost use Rattle.tree_grammar.specs.declared.kinds.EfgKind.TheVariants.{Probability, ProbabilityRange};
 ghost use Rattle.refusals.specs.Refusals.{text_kind_text, nfg_kind_text, efg_kind_text, op_text, site_text, spaced, what_text, refusal_line};
@@ -195,6 +195,13 @@ pub fn sums_line(
     )?)
 }
 
+// A number from 1 on, for one from 0 on.
+fn from_one(number: u32) -> u64
+    ensures { result ≡ number + 1 }
+{
+    number as u64 + 1
+}
+
 // A word and a number after it.
 fn numbered(alloc: Global, word: &str, number: u64) -> Result<String, Memory>
     ensures { IfOk result (λ text. string_bytes text ≡ word.now ++ decimal number) }
@@ -214,6 +221,17 @@ fn numbered_pair(
         string_bytes text ≡ word.now ++ decimal number ++ other.now ++ decimal other_number) }
 {
     Ok(format!(in alloc; "{word}{number}{other}{other_number}")?)
+}
+
+// The words for the value of a node under a choice.
+fn choice_text(alloc: Global, choice: u32, node: u32, player: u32) -> Result<String, Memory>
+    ensures { IfOk result (λ text.
+        string_bytes text ≡ site_text (site.Choice choice node player)) }
+{
+    let first = choice as u64 + 1;
+    let second = node as u64 + 1;
+    let third = player as u64 + 1;
+    Ok(format!(in alloc; "choice {first} node {second} player {third}")?)
 }
 
 // The words for the cost of a cell.
@@ -247,7 +265,7 @@ fn level_text(
     ensures { IfOk result (λ text.
         string_bytes text ≡ site_text (site.Level polytope level basis.now entering)) }
 {
-    let number = polytope as u64 + 1;
+    let number = from_one(polytope);
     let variables = spaced(alloc, basis.variables())?;
     Ok(format!(in alloc; "polytope {number} level {level} basis{variables} entering {entering}")?)
 }
@@ -258,11 +276,21 @@ fn site_text(alloc: Global, site: &Site) -> Result<String, Memory>
 {
     match site {
         Site::Cell { profile, player } => {
-            let number = *profile as u64 + 1;
-            numbered_pair(alloc, "profile ", number, " player ", *player as u64 + 1)
+            numbered_pair(
+                alloc,
+                "profile ",
+                from_one(*profile),
+                " player ",
+                from_one(*player),
+            )
         }
-        Site::Place { place } => numbered(alloc, "place ", *place as u64 + 1),
-        Site::Sum { place } => numbered(alloc, "sum ", *place as u64 + 1),
+        Site::Choice {
+            choice,
+            node,
+            player,
+        } => choice_text(alloc, *choice, *node, *player),
+        Site::Place { place } => numbered(alloc, "place ", from_one(*place)),
+        Site::Sum { place } => numbered(alloc, "sum ", from_one(*place)),
         Site::Gain { row, column } => {
             numbered_pair(alloc, "gain row ", *row as u64, " column ", *column as u64)
         }
@@ -271,34 +299,32 @@ fn site_text(alloc: Global, site: &Site) -> Result<String, Memory>
             row,
             column,
         } => cost_text(alloc, *player, *row, *column),
-        Site::Start { row } => numbered(alloc, "path start row ", *row as u64 + 1),
+        Site::Start { row } => numbered(alloc, "path start row ", from_one(*row)),
         Site::Step { step, entering } => {
             numbered_pair(alloc, "path step ", *step, " entering ", *entering as u64)
         }
-        Site::Plan { player } => numbered(alloc, "plan player ", *player as u64 + 1),
+        Site::Plan { player } => numbered(alloc, "plan player ", from_one(*player)),
         Site::Behaviour { player, set } => {
-            numbered_pair(
-                alloc,
-                "behaviour player ",
-                *player as u64 + 1,
-                " set ",
-                *set,
-            )
+            numbered_pair(alloc, "behaviour player ", from_one(*player), " set ", *set)
         }
         Site::Value => Ok(String::from_str(alloc, "value")?),
         Site::Shift { player, profile } => {
-            let number = *player as u64 + 1;
             numbered_pair(
                 alloc,
                 "shift player ",
-                number,
+                from_one(*player),
                 " profile ",
-                *profile as u64 + 1,
+                from_one(*profile),
             )
         }
         Site::PolytopeStart { polytope, row } => {
-            let number = *polytope as u64 + 1;
-            numbered_pair(alloc, "polytope ", number, " start row ", *row as u64 + 1)
+            numbered_pair(
+                alloc,
+                "polytope ",
+                from_one(*polytope),
+                " start row ",
+                from_one(*row),
+            )
         }
         Site::Level {
             polytope,
@@ -306,7 +332,7 @@ fn site_text(alloc: Global, site: &Site) -> Result<String, Memory>
             basis,
             entering,
         } => level_text(alloc, *polytope, *level, basis, *entering),
-        Site::Scaling { polytope } => numbered(alloc, "scale polytope ", *polytope as u64 + 1),
+        Site::Scaling { polytope } => numbered(alloc, "scale polytope ", from_one(*polytope)),
         Site::Line { line } => numbered(alloc, "line ", *line),
     }
 }

@@ -14,7 +14,7 @@ use std::alloc::Global;
 use thiserror::Error;
 use words::Usage;
 
-/// Where a step of the arithmetic stands. Profiles, nodes, players, sequences, rows, polytopes and
+/// Where a step of the arithmetic stands. Profiles, choices, nodes, players, sequences, rows, polytopes and
 /// levels are numbered from 0, variables and the steps of a path from 1. Sequence 0 is the empty one.
 #[derive(Debug, Drop)]
 pub enum Site {
@@ -22,6 +22,15 @@ pub enum Site {
     Cell {
         /// The profile.
         profile: u32,
+        /// The player.
+        player: u32,
+    },
+    /// In the value of a node for a player under a choice of one action at each player's set.
+    Choice {
+        /// The choice.
+        choice: u32,
+        /// The node.
+        node: u32,
         /// The player.
         player: u32,
     },

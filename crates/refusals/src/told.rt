@@ -16,6 +16,7 @@ use perfect_recall::RecallStop;
 use reduced_form::{KeptStop, ReduceStop};
 use sequence_form::SeqStop;
 use std::alloc::AllocError;
+use subgames::ChoiceStop;
 use zero_sum_lp::{LpStop, PlanStop};
 
 impl From<Memory> for Refusal {
@@ -131,6 +132,33 @@ impl From<ListStop> for Refusal {
         match stop {
             ListStop::TooLarge(passed) => Refusal::from(passed),
             ListStop::Memory => Refusal::Memory,
+        }
+    }
+}
+
+impl From<ChoiceStop> for Refusal {
+    ghost use Rattle.std.specs.Prelude.{◌≡◌};
+    ghost use Rattle.refusals.specs.Told.{choice_refusal};
+
+    ghost from_gives = { λ stop r. r ≡ choice_refusal stop };
+
+    fn from(stop: ChoiceStop) -> Refusal {
+        match stop {
+            ChoiceStop::TooLarge(passed) => Refusal::from(passed),
+            ChoiceStop::Range {
+                choice,
+                node,
+                player,
+                unfit,
+            } => {
+                let site = Site::Choice {
+                    choice,
+                    node,
+                    player,
+                };
+                Refusal::Range { site, unfit }
+            }
+            ChoiceStop::Memory => Refusal::Memory,
         }
     }
 }

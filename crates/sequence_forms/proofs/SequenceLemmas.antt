@@ -4,7 +4,7 @@ use Rattle.std.specs.Prelude.{◌==◌, if◌then◌else◌, slice_index}
 use Rattle.std.proofs.lemmas.Bool.{cases_lt}
 use Rattle.std.proofs.lemmas.Bool.Decides.{Decides-eqb, not_from_Decides}
 use Rattle.game_theory.specs.OwnSets.{own_sets}
-use Rattle.game_theory.proofs.OwnSetLemmas.{is_index-decides, is_own-decides, IsAmong, own_sets-has, own_sets-tell}
+use Rattle.game_theory.proofs.OwnSetLemmas.{is_index-decides, is_own-decides, IsAmong, among_at, own_sets-has, own_sets-tell}
 use Rattle.game_theory.specs.Trees.{Tree, IsTree}
 use Rattle.game_theory.specs.Behaviour.{is_index, is_own}
 use Rattle.game_theory.specs.Recall.{own_edge, own_history, HasPerfectRecall}
@@ -29,15 +29,9 @@ place_in-is (set ∷ sets) s h = go (set == s) (Decides-eqb set s) h (place_in-i
 pub place-own : (t : Tree) (i s : ℕ) → s < t.sets → t.owner s ≡ Some i → (place_in (own_sets t i) s < length (own_sets t i)) × (slice_index (own_sets t i) (place_in (own_sets t i) s) ≡ s)
 place-own t i s l e = place_in-is (own_sets t i) s (own_sets-has t i s l e)
 
--- what stands in a list is in it
-pub among_at : (sets : List ℕ) (j : ℕ) → j < length sets → IsAmong sets (slice_index sets j)
-among_at [] j h = absurd (omega arith)
-among_at (set ∷ sets) zero h = inl refl
-among_at (set ∷ sets) (suc j) h = inr (among_at sets j (omega arith))
-
 -- a set of a side is an own set
 pub own_set-is : (t : Tree) (i j : ℕ) → j < length (own_sets t i) → (slice_index (own_sets t i) j < t.sets) × (t.owner (slice_index (own_sets t i) j) ≡ Some i)
-own_set-is t i j h = own_sets-tell t i (slice_index (own_sets t i) j) (among_at (own_sets t i) j h)
+own_set-is t i j h = own_sets-tell t i (slice_index (own_sets t i) j) (among_at (own_sets t i) j 0 h)
 
 -- ---- last edges
 -- the last edge of a history with one more step

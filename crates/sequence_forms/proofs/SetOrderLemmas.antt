@@ -4,7 +4,7 @@ use Rattle.std.specs.Prelude.{◌==◌, if◌then◌else◌, slice_index}
 use Rattle.std.proofs.lemmas.Bool.{cases_lt}
 use Rattle.std.proofs.lemmas.Bool.Decides.{Decides-eqb, not_from_Decides}
 use Rattle.game_theory.specs.OwnSets.{own_sets}
-use Rattle.game_theory.proofs.OwnSetLemmas.{is_own-decides, IsAmong, AscendFrom, IsAmong-from, own_sets-has, own_sets-ascend}
+use Rattle.game_theory.proofs.OwnSetLemmas.{among_at, is_own-decides, IsAmong, AscendFrom, IsAmong-from, own_sets-has, own_sets-ascend}
 use Rattle.game_theory.specs.FirstNodes.{AreNumberedByFirstNodes}
 use Rattle.game_theory.specs.Trees.{Tree, IsTree}
 use Rattle.game_theory.specs.Behaviour.{is_own}
@@ -14,7 +14,7 @@ use Rattle.sequence_forms.specs.Sides.{first_after, first}
 use Rattle.sequence_forms.specs.Sequences.{last_edge, place_in, action_count, sequence, last_sequence, sequence_before, side_of}
 use Rattle.sequence_forms.specs.TreeLaws.{TreesHaveOrderedSides}
 use Rattle.sequence_forms.proofs.SideLemmas.{first_pos, first_up}
-use Rattle.sequence_forms.proofs.SequenceLemmas.{place-own, among_at, own_set-is, last-own, last-other, history_before-cases}
+use Rattle.sequence_forms.proofs.SequenceLemmas.{place-own, own_set-is, last-own, last-other, history_before-cases}
 
 -- ---- places
 -- in an ascending list the smaller of two sets has the smaller place
@@ -103,7 +103,7 @@ place_at n (set ∷ sets) zero o h = grind (arith, tests)
 place_at n (set ∷ sets) (suc j) o h = go (set == slice_index sets j) (Decides-eqb set (slice_index sets j)) (place_at (suc set) sets j o.1 (omega arith))
   where
     go : (b : Bool) → Decides b (set ≡ slice_index sets j) → place_in sets (slice_index sets j) ≡ j → (if b then 0 else suc (place_in sets (slice_index sets j))) ≡ suc j
-    go true d e = absurd (omega (arith, d.0 refl, IsAmong-from (suc set) sets (slice_index sets j) o.1 (among_at sets j (omega arith))))
+    go true d e = absurd (omega (arith, d.0 refl, IsAmong-from (suc set) sets (slice_index sets j) o.1 (among_at sets j 0 (omega arith))))
     go false d e = ap suc e
 
 -- the sequence before a set comes before the set's own

@@ -9,9 +9,9 @@ use Rattle.game_theory.specs.OwnSets.{own_sets, own_counts, Chooses, NobodyChoos
 use Rattle.lists.proofs.ElementLemmas.{element, slice_get-longer, slice_get-push_cases}
 use Rattle.game_theory.specs.Trees.{Tree, IsTree}
 use Rattle.game_theory.specs.Recall.{own_history}
-use Rattle.choice_lists.specs.declared.decision.Decision.{Decision}
-use Rattle.choice_lists.specs.declared.decision.Edge.{Edge}
-use Rattle.choice_lists.specs.Reduced.{AreLinked, ComesFrom}
+use Rattle.strategy_lists.specs.declared.decision.Decision.{Decision}
+use Rattle.strategy_lists.specs.declared.decision.Edge.{Edge}
+use Rattle.strategy_lists.specs.Reduced.{AreLinked, ComesFrom}
 use Rattle.strategy_lists.specs.Decisions.{history_by, IsDecisionAt, AreDecisions, AreDecisionsOfAll}
 use Rattle.strategy_lists.specs.Made.{mover, IsEdgeTo, LeadsTo, IsMadeAt, HasTaken}
 use Rattle.strategy_lists.proofs.MoveLemmas.{move_at, mover-move, mover-within}

@@ -12,9 +12,9 @@ use Rattle.game_theory.specs.Recall.{own_history}
 use Rattle.reduced_strategies.specs.Choices.{choice_at, Agrees, IsReachedUnder as is_set_reached, IsReduced, AreReducedStrategies}
 use Rattle.reduced_strategies.proofs.SetLemmas.{choice_at-among, choice_at-first, choice_at-later}
 use Rattle.reduced_strategies.proofs.HistoryLemmas.{Agrees-append}
-use Rattle.choice_lists.specs.declared.decision.Decision.{Decision}
-use Rattle.choice_lists.specs.declared.decision.Edge.{Edge}
-use Rattle.choice_lists.specs.Reduced.{ComesFrom, IsLedTo, IsReachedWithin, IsPlaceReached, IsReducedBy, AreReducedBy}
+use Rattle.strategy_lists.specs.declared.decision.Decision.{Decision}
+use Rattle.strategy_lists.specs.declared.decision.Edge.{Edge}
+use Rattle.strategy_lists.specs.Reduced.{ComesFrom, IsLedTo, IsReachedWithin, IsPlaceReached, IsReducedBy, AreReducedBy}
 use Rattle.strategy_lists.specs.Decisions.{history_by, IsDecisionAt, AreDecisions}
 use Rattle.game_theory.proofs.IndexLemmas.{numbers_with-at, numbers_with-tell, numbers_with-place}
 

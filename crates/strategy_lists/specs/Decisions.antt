@@ -4,9 +4,9 @@ use Rattle.game_theory.specs.OwnSets.{own_sets, own_counts}
 use Rattle.game_theory.specs.Trees.{Tree}
 use Rattle.game_theory.specs.Recall.{own_history}
 use Rattle.reduced_strategies.specs.Choices.{AreReducedStrategies}
-use Rattle.choice_lists.specs.declared.decision.Decision.{Decision}
-use Rattle.choice_lists.specs.declared.decision.Edge.{Edge}
-use Rattle.choice_lists.specs.Reduced.{AreLinked}
+use Rattle.strategy_lists.specs.declared.decision.Decision.{Decision}
+use Rattle.strategy_lists.specs.declared.decision.Edge.{Edge}
+use Rattle.strategy_lists.specs.Reduced.{AreLinked}
 
 -- the own history of the decision to which an edge leads, where these nodes are the decisions'
 abbrev pub history_by : Tree → ℕ → List ℕ → Option Edge → List (ℕ × ℕ)

@@ -5,8 +5,8 @@ use Rattle.game_theory.specs.Trees.{Tree}
 use Rattle.game_theory.specs.Recall.{own_history}
 use Rattle.game_core.specs.declared.tree.Kind.{Kind}
 use Rattle.game_core.specs.declared.tree.Kind.TheVariants.{Chance, Move, End}
-use Rattle.choice_lists.specs.declared.decision.Decision.{Decision}
-use Rattle.choice_lists.specs.declared.decision.Edge.{Edge}
+use Rattle.strategy_lists.specs.declared.decision.Decision.{Decision}
+use Rattle.strategy_lists.specs.declared.decision.Edge.{Edge}
 
 -- the player who moves at a node of this kind
 abbrev pub mover_of : Kind → Option ℕ

@@ -7,8 +7,8 @@ ghost use Rattle.strategy_lists.specs.Decisions.{AreDecisionsOfAll};
 ghost use Rattle.strategy_lists.specs.Made.{HasTaken, IsLastMove, IsMadeAt, mover, mover_of};
 ghost use Rattle.game_theory.specs.OwnSets.{Chooses, own_sets};
 
+use crate::{Decision, Edge};
 use answers::Memory;
-use choice_lists::{Decision, Edge};
 use game_core::tree_parts::choice_at;
 use game_core::{Kind, Node, Tree, trees_are_game_trees};
 use std::alloc::Global;

@@ -7,8 +7,8 @@ ghost use Rattle.strategy_lists.specs.Decisions.{AreDecisions, HasCount};
 ghost use Rattle.game_theory.specs.OwnSets.{own_counts};
 
 use crate::decisions::decisions_of_all;
+use crate::{Decision, count_reduced, list_reduced};
 use answers::Memory;
-use choice_lists::{Decision, count_reduced, list_reduced};
 use game_core::Tree;
 use std::alloc::Global;
 use std::marker::Model;

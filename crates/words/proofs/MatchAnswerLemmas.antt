@@ -57,10 +57,11 @@ none_after f (Some x) e = e x
 no_value : (o : Options) (settings : List Part → Option Command) → o.valued ≡ [] → (ps : List Part) → GivesHyphen o ps → settings ps ≡ None
 no_value o settings none ps h = let bad : has_letter [] h.0 ≡ true = subst (λ ls. has_letter ls h.0 ≡ true) none h.1 in absurd (true≢false (sym bad))
 
-pub enumpure_told : (words : List Text) (m : ArgMatches) (strategic : Bool) (plain : List Text) → SaysParts enumpure_options (word_parts enumpure_options words None) m
-    → strategic ≡ is_counted (flag_id 83) (rows_of (found_of m)) → plain ≡ texts_at (codes "words") (rows_of (found_of m)) → enumpure_settings strategic plain ≡ answer enumpure_options enumpure_of words
-enumpure_told words m strategic plain tells s w = told_answer enumpure_options enumpure_of words m tells (no_value enumpure_options enumpure_of refl) (enumpure_settings strategic plain)
-    (λ ps says i. enumpure_settings ((s ∙ says.flags 83) i) ((w ∙ says.plain) i))
+pub enumpure_told : (words : List Text) (m : ArgMatches) (strategic agents perfect : Bool) (plain : List Text) → SaysParts enumpure_options (word_parts enumpure_options words None) m
+    → strategic ≡ is_counted (flag_id 83) (rows_of (found_of m)) → agents ≡ is_counted (flag_id 65) (rows_of (found_of m)) → perfect ≡ is_counted (flag_id 80) (rows_of (found_of m))
+    → plain ≡ texts_at (codes "words") (rows_of (found_of m)) → enumpure_settings strategic agents perfect plain ≡ answer enumpure_options enumpure_of words
+enumpure_told words m strategic agents perfect plain tells s a p w = told_answer enumpure_options enumpure_of words m tells (no_value enumpure_options enumpure_of refl) (enumpure_settings strategic agents perfect plain)
+    (λ ps says i. enumpure_settings ((s ∙ says.flags 83) i) ((a ∙ says.flags 65) i) ((p ∙ says.flags 80) i) ((w ∙ says.plain) i))
 
 enummixed_refuses : (ps : List Part) → GivesHyphen enummixed_options ps → enummixed_of ps ≡ None
 enummixed_refuses ps h = let at_j : has_hyphen (values_of 106 ps) ≡ true = subst (λ x. has_hyphen (values_of x ps) ≡ true) (sym (only 106 h.0 h.1)) h.2 in

@@ -1,5 +1,5 @@
 -- The command that words give is one of the tool that they name.
-use Rattle.std.proofs.Common.{◌≡◌, sym, subst, refl, ℕ, Bool, true, false, if◌then◌else◌, List, [], ◌∷◌, Option, Some, None, Result, codes, IfOk}
+use Rattle.std.proofs.Common.{◌≡◌, sym, subst, refl, ℕ, Bool, true, false, ◌&&◌, ◌||◌, if◌then◌else◌, List, [], ◌∷◌, Option, Some, None, Result, codes, IfOk}
 use Rattle.std.specs.Prelude.{option_and_then, option_map}
 use Rattle.std.proofs.lemmas.Slice.Eq.{bytes_eq-Decides}
 use Rattle.words.specs.Grammar.{has_flag, has_prices, word_parts, plain_of, values_of}
@@ -9,7 +9,7 @@ use Rattle.words.specs.declared.Usage.{Usage}
 
 -- the name of a command's tool
 abbrev pub tool_name : Command → List ℕ
-tool_name (Enumpure strategic file) = codes "enumpure"
+tool_name (Enumpure strategic agents perfect file) = codes "enumpure"
 tool_name (Enummixed all workers file) = codes "enummixed"
 tool_name (Lcp strategic file) = codes "lcp"
 tool_name (Lp strategic prices file) = codes "lp"
@@ -30,13 +30,14 @@ then_named : {X : Type 0} (name : List ℕ) (f : X → Option Command) → ((x :
 then_named name f is None = tt
 then_named name f is (Some x) = is x
 
-if_named : (name : List ℕ) (b : Bool) (o : Option Command) → Named name o → Named name (if b then o else None)
-if_named name true o is = is
-if_named name false o is = tt
+if_named : (name : List ℕ) (b : Bool) (o other : Option Command) → Named name o → Named name other → Named name (if b then o else other)
+if_named name true o other is also = is
+if_named name false o other is also = also
 
 -- ---- the tools
 enumpure_named : (words : List (List ℕ)) → Named (codes "enumpure") (answer enumpure_options enumpure_of words)
-enumpure_named words = then_named _ enumpure_of (λ ps. map_named _ (Enumpure (has_flag 83 ps)) (λ file. refl) (at_most_one (plain_of ps))) (word_parts enumpure_options words None)
+enumpure_named words = then_named _ enumpure_of (λ ps. if_named _ (has_flag 83 ps && (has_flag 65 ps || has_flag 80 ps)) None _ tt
+    (map_named _ (Enumpure (has_flag 83 ps) (has_flag 65 ps) (has_flag 80 ps)) (λ file. refl) (at_most_one (plain_of ps)))) (word_parts enumpure_options words None)
 
 enummixed_named : (words : List (List ℕ)) → Named (codes "enummixed") (answer enummixed_options enummixed_of words)
 enummixed_named words = then_named _ enummixed_of (λ ps. then_named _ (λ n. option_map (Enummixed (has_flag 68 ps) n) (at_most_one (plain_of ps)))
@@ -44,7 +45,7 @@ enummixed_named words = then_named _ enummixed_of (λ ps. then_named _ (λ n. op
 
 lcp_named : (words : List (List ℕ)) → Named (codes "lcp") (answer lcp_options lcp_of words)
 lcp_named words = then_named _ lcp_of (λ ps. then_named _ (λ e. if is_one_or_none e then option_map (Lcp (has_flag 83 ps)) (at_most_one (plain_of ps)) else None)
-    (λ e. if_named _ (is_one_or_none e) _ (map_named _ (Lcp (has_flag 83 ps)) (λ file. refl) (at_most_one (plain_of ps)))) (at_most_one (values_of 101 ps))) (word_parts lcp_options words None)
+    (λ e. if_named _ (is_one_or_none e) _ None (map_named _ (Lcp (has_flag 83 ps)) (λ file. refl) (at_most_one (plain_of ps))) tt) (at_most_one (values_of 101 ps))) (word_parts lcp_options words None)
 
 lp_named : (words : List (List ℕ)) → Named (codes "lp") (answer lp_options lp_of words)
 lp_named words = then_named _ lp_of (λ ps. map_named _ (Lp (has_flag 83 ps) (has_prices ps)) (λ file. refl) (at_most_one (plain_of ps))) (word_parts lp_options words None)

@@ -1,5 +1,5 @@
 -- What a command line asks for.
-use Rattle.std.specs.Prelude.{ℕ, Bool, true, false, if◌then◌else◌, ◌&&◌, ◌≡◌, ◌≤◌, List, [], ◌∷◌, length, Option, None, Some, option_map, option_and_then, string_bytes, Result, Ok, Err, codes, nat_le, nat_lt, slice_index}
+use Rattle.std.specs.Prelude.{ℕ, Bool, true, false, if◌then◌else◌, ◌&&◌, ◌||◌, ◌≡◌, ◌≤◌, List, [], ◌∷◌, length, Option, None, Some, option_map, option_and_then, string_bytes, Result, Ok, Err, codes, nat_le, nat_lt, slice_index}
 use Prim.Native.String.{String}
 use Rattle.std.specs.Str.{all_ascii_digits, bytes_eq}
 use Rattle.std.specs.Str.Parse.{digits_value}
@@ -12,9 +12,10 @@ use Rattle.words.specs.declared.Usage.TheVariants.{NoTool, UnknownTool, Words}
 use Rattle.words.specs.Grammar.{Options, Part, has_flag, has_prices, word_parts, plain_of, values_of}
 
 -- A tool and how it works; a file that is None is standard input. Where `all` is true, `enummixed` looks
--- through all strategies, and else without the strictly dominated ones.
+-- through all strategies, and else without the strictly dominated ones. Where `agents` or `perfect` is
+-- true, `enumpure` lists the choices that are equilibria of the agent form, or in every subgame.
 pub data Command : Type 0 where
-  Enumpure : (strategic : Bool) → (file : Option (List ℕ)) → Command
+  Enumpure : (strategic agents perfect : Bool) → (file : Option (List ℕ)) → Command
   Enummixed : (all : Bool) → (workers : ℕ) → (file : Option (List ℕ)) → Command
   Lcp : (strategic : Bool) → (file : Option (List ℕ)) → Command
   Lp : (strategic prices : Bool) → (file : Option (List ℕ)) → Command
@@ -69,13 +70,19 @@ abbrev pub letter : String → ℕ
 letter text = slice_index (codes text) 0
 
 abbrev pub enumpure_options : Options
-enumpure_options = record { flags = codes "qS"; valued = []; prices = false }
+enumpure_options = record { flags = codes "qSAP"; valued = []; prices = false }
 
-abbrev pub enumpure_settings : (strategic : Bool) → (plain : List (List ℕ)) → Option Command
-enumpure_settings strategic plain = option_map (Enumpure strategic) (at_most_one plain)
+-- strategies are not asked for beside the agent form or subgames
+abbrev pub enumpure_settings : (strategic agents perfect : Bool) → (plain : List (List ℕ))
+    → Option Command
+enumpure_settings strategic agents perfect plain =
+    if strategic && (agents || perfect) then None
+    else option_map (Enumpure strategic agents perfect) (at_most_one plain)
 
 abbrev pub enumpure_of : List Part → Option Command
-enumpure_of parts = enumpure_settings (has_flag (letter "S") parts) (plain_of parts)
+enumpure_of parts =
+    enumpure_settings (has_flag (letter "S") parts) (has_flag (letter "A") parts)
+    (has_flag (letter "P") parts) (plain_of parts)
 
 abbrev pub enummixed_options : Options
 enummixed_options = record { flags = codes "qD"; valued = codes "j"; prices = false }
@@ -176,7 +183,8 @@ IsWithinRanges _ = Unit {0}
 
 -- the command that settings stand for
 abbrev pub command_of : Settings → Command
-command_of (settings.Enumpure strategic file) = Enumpure strategic (option_map string_bytes file)
+command_of (settings.Enumpure strategic agents perfect file) =
+    Enumpure strategic agents perfect (option_map string_bytes file)
 command_of (settings.Enummixed all workers file) = Enummixed all workers (option_map string_bytes file)
 command_of (settings.Lcp strategic file) = Lcp strategic (option_map string_bytes file)
 command_of (settings.Lp strategic prices file) = Lp strategic prices (option_map string_bytes file)

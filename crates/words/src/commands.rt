@@ -86,7 +86,9 @@ fn strategic_command<'a>(alloc: Global) -> Result<Command<'a>, AllocError>
 pub(crate) fn enumpure_command<'a>(alloc: Global) -> Result<Command<'a>, AllocError>
     ensures { IfOk result (λ c. app_of c ≡ app_with enumpure_options) }
 {
-    strategic_command(alloc)
+    let strategic = strategic_command(alloc)?;
+    let agents = with_flag(alloc, strategic, "A", 'A')?;
+    with_flag(alloc, agents, "P", 'P')
 }
 
 /// The command of `enummixed`.

@@ -23,9 +23,13 @@ use std::alloc::{AllocError, Global};
 #[derive(Debug, Drop)]
 pub enum Settings {
     /// List the pure equilibria of a game: those of a tree by reduced strategies where `strategic` is set, and else as
-    /// behaviour.
+    /// behaviour. Of a tree where one of the others is set: the choices that are equilibria of the agent form where
+    /// `agents` is set, and else of the players; in every subgame where `perfect` is set. `strategic` is set only
+    /// where both are not.
     Enumpure {
         strategic: bool,
+        agents: bool,
+        perfect: bool,
         file: Option<String>,
     },
     /// List the extreme equilibria of a game of two players: looked for among all strategies where `all` is set (`-D`),

@@ -22,12 +22,23 @@ use std::alloc::Global;
 fn enumpure(
     alloc: Global,
     strategic: bool,
+    agents: bool,
+    perfect: bool,
     plain: Option<&[&str]>,
 ) -> Result<Settings, SettingsStop>
-    ensures { IsAnswer (enumpure_settings strategic (collected plain.entry)) result }
+    ensures { IsAnswer
+        (enumpure_settings strategic agents perfect (collected plain.entry)) result }
 {
+    if strategic && (agents || perfect) {
+        return Err(SettingsStop::Usage(Usage::Words));
+    }
     let file = file_from(alloc, plain)?;
-    Ok(Settings::Enumpure { strategic, file })
+    Ok(Settings::Enumpure {
+        strategic,
+        agents,
+        perfect,
+        file,
+    })
 }
 
 /// Reads the words after `enumpure`.
@@ -37,8 +48,10 @@ pub(crate) fn read_enumpure(alloc: Global, words: &[String]) -> Result<Settings,
     let command = commands::enumpure_command(alloc)?;
     let matches = read_words(command, words)?;
     let strategic = is_given(&matches, "S");
+    let agents = is_given(&matches, "A");
+    let perfect = is_given(&matches, "P");
     let plain = given(&matches, "words");
-    enumpure(alloc, strategic, plain)
+    enumpure(alloc, strategic, agents, perfect, plain)
 }
 
 // The settings of `enummixed`, by what its words give.

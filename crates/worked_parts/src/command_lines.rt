@@ -30,13 +30,15 @@ make -j 2 1 2 2 | Make { number: 1, rows: 2, columns: 2, workers: 2 }
 convert -O html -r 2 | Convert { html: true, row: 2, column: 2, file: None }"#;
 
 // Runs of flags, and flags that a tool does not have.
-const FLAGS: &str = r#"enumpure | Enumpure { strategic: false, file: None }
-enumpure -q -q | Enumpure { strategic: false, file: None }
-enumpure -SqS -S | Enumpure { strategic: true, file: None }
-enumpure -AP | Words
+const FLAGS: &str =
+    r#"enumpure | Enumpure { strategic: false, agents: false, perfect: false, file: None }
+enumpure -q -q | Enumpure { strategic: false, agents: false, perfect: false, file: None }
+enumpure -SqS -S | Enumpure { strategic: true, agents: false, perfect: false, file: None }
+enumpure -AP | Enumpure { strategic: false, agents: true, perfect: true, file: None }
+enumpure -P game -q | Enumpure { strategic: false, agents: false, perfect: true, file: Some("game") }
 enumpure -PSq x | Words
 enumpure -S -A | Words
-enumpure x -S | Enumpure { strategic: true, file: Some("x") }
+enumpure x -S | Enumpure { strategic: true, agents: false, perfect: false, file: Some("x") }
 enumpure -s | Words
 enumpure -S= | Words
 enumpure -S=x | Words
@@ -52,17 +54,18 @@ enumpure --S | Words
 enumpure -S- | Words"#;
 
 // Words that are no flags, and words that end the flags.
-const PLAIN: &str = r#"enumpure - | Enumpure { strategic: false, file: Some("-") }
-enumpure  | Enumpure { strategic: false, file: Some("") }
+const PLAIN: &str =
+    r#"enumpure - | Enumpure { strategic: false, agents: false, perfect: false, file: Some("-") }
+enumpure  | Enumpure { strategic: false, agents: false, perfect: false, file: Some("") }
 enumpure   | Words
-enumpure -- | Enumpure { strategic: false, file: None }
-enumpure -- -- | Enumpure { strategic: false, file: Some("--") }
-enumpure -- -S | Enumpure { strategic: false, file: Some("-S") }
-enumpure -S -- -A | Enumpure { strategic: true, file: Some("-A") }
+enumpure -- | Enumpure { strategic: false, agents: false, perfect: false, file: None }
+enumpure -- -- | Enumpure { strategic: false, agents: false, perfect: false, file: Some("--") }
+enumpure -- -S | Enumpure { strategic: false, agents: false, perfect: false, file: Some("-S") }
+enumpure -S -- -A | Enumpure { strategic: true, agents: false, perfect: false, file: Some("-A") }
 enumpure -- a b | Words
 enumpure a -- b | Words
-enumpure é | Enumpure { strategic: false, file: Some("é") }
-enumpure help | Enumpure { strategic: false, file: Some("help") }
+enumpure é | Enumpure { strategic: false, agents: false, perfect: false, file: Some("é") }
+enumpure help | Enumpure { strategic: false, agents: false, perfect: false, file: Some("help") }
 -- enumpure | UnknownTool
 -q enumpure | UnknownTool
  | UnknownTool
@@ -194,7 +197,7 @@ fn other_words(rt: HostRuntime) -> Result<(), AllocError> {
     for _ in 0..300 {
         line.push_str(" -S")?;
     }
-    line.push_str(" | Enumpure { strategic: true, file: None }")?;
+    line.push_str(" | Enumpure { strategic: true, agents: false, perfect: false, file: None }")?;
     assert!(rt; holds(alloc, line.as_str())?);
     Ok(())
 }

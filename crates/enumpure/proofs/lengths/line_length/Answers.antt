@@ -1,64 +1,43 @@
-use Rattle.std.proofs.Common.{◌+◌, ◌*◌, ◌<◌, ◌≡◌, length, take, sym, ap, ap₂, ◌∙◌, arith}
-use Rattle.std.specs.List.{sum_by}
-use Rattle.std.proofs.lemmas.List.Sums.{sum_by_more, sum_by_more_le}
-use Rattle.game_core.proofs.TableCountLemmas.{length-strategy_counts}
-use Rattle.game_core.specs.Table.{strategy_counts}
-use Rattle.enumpure.proofs.LineLengthLemmas.{all_counted, sum-table, few_bytes, length-line_none, length-line_text}
-use Rattle.game_core.proofs.StrideLemmas.{HaveStrategies-table}
+use Rattle.std.proofs.Common.{◌+◌, ◌*◌, get_or, sym, ap, ◌∙◌, arith}
+use Rattle.std.proofs.lemmas.List.Sums.{sum_by_more}
+use Rattle.enumpure.proofs.LineLengthLemmas.{HaveStrategies-all, all_counted, few_bytes, few_strategies, length-line_none, length-line_text}
 use Rattle.enumpure.proofs.lengths.line_length.Goals as goal
 
 pub overflow_add-strategies : goal.overflow_add-strategies
 overflow_add-strategies c =
-    let t = c.args.table.now in
-    let valid = c.players-player-end.ensures.valid in
-    let player : c.loop-player.player < length (strategy_counts t) = omega (arith, length-strategy_counts t valid, ap length c.players-player-end.ensures.players) in
-    omega (arith, c.loop-player.invariant, c.strategy_count-strategies.ensures.count, sum_by_more_le (λ n. n) (strategy_counts t) c.loop-player.player 0 player, sum-table t valid)
+    let counts = c.args.counts.now in
+    let i = c.loop-count.count-index in
+    omega (arith, few_strategies counts _ (i + 1) c.requires.some c.requires.players c.requires.few (ap (λ v. v + get_or counts i 0) c.loop-count.invariant ∙ sym (sum_by_more (λ n. n) counts i 0 c.loop-count-test.true)))
 
-pub loop-player-preserved : goal.loop-player-preserved
-loop-player-preserved c =
-    let t = c.args.table.now in
-    let player : c.loop-player.player < length (strategy_counts t) = omega (arith, length-strategy_counts t c.players-player-end.ensures.valid, ap length c.players-player-end.ensures.players) in
-    let was : c.loop-player.strategies ≡ sum_by (λ n. n) (take c.loop-player.player (strategy_counts t)) = c.loop-player.invariant in
-    ap₂ (λ x y. x + y) was c.strategy_count-strategies.ensures.count ∙ sym (sum_by_more (λ n. n) (strategy_counts t) c.loop-player.player 0 player)
+pub loop-count-preserved : goal.loop-count-preserved
+loop-count-preserved c =
+    let counts = c.args.counts.now in
+    let i = c.loop-count.count-index in
+    ap (λ v. v + get_or counts i 0) c.loop-count.invariant ∙ sym (sum_by_more (λ n. n) counts i 0 c.loop-count-test.true)
 
 pub overflow_mul-result : goal.overflow_mul-result
 overflow_mul-result c =
-    let t = c.args.table.now in
-    let valid = c.players-player-end.ensures.valid in
-    let e : c.loop-player.strategies ≡ sum_by (λ n. n) (strategy_counts t) = all_counted t c.loop-player.strategies c.loop-player.player valid (omega (arith, ap length c.players-player-end.ensures.players)) c.loop-player.invariant in
-    omega (arith, e, sum-table t valid)
+    omega (arith, few_strategies c.args.counts.now c.loop-count.strategies c.loop-count.count-index c.requires.some c.requires.players c.requires.few c.loop-count.invariant)
 
 pub overflow_add-result : goal.overflow_add-result
 overflow_add-result c =
-    let t = c.args.table.now in
-    let valid = c.players-player-end.ensures.valid in
-    let e : c.loop-player.strategies ≡ sum_by (λ n. n) (strategy_counts t) = all_counted t c.loop-player.strategies c.loop-player.player valid (omega (arith, ap length c.players-player-end.ensures.players)) c.loop-player.invariant in
-    omega (arith, e, sum-table t valid)
+    omega (arith, few_strategies c.args.counts.now c.loop-count.strategies c.loop-count.count-index c.requires.some c.requires.players c.requires.few c.loop-count.invariant)
 
 pub returns-then-strategies-eq0-clause-each : goal.returns-then-strategies-eq0-clause-each
 returns-then-strategies-eq0-clause-each c =
-    let t = c.args.table.now in
-    let valid = c.players-player-end.ensures.valid in
-    let e : c.loop-player.strategies ≡ sum_by (λ n. n) (strategy_counts t) = all_counted t c.loop-player.strategies c.loop-player.player valid (omega (arith, ap length c.players-player-end.ensures.players)) c.loop-player.invariant in
-    λ profile. length-line_none (strategy_counts t) profile (HaveStrategies-table t valid) (sym e ∙ c.if-strategies-eq0.true)
+    let counts = c.args.counts.now in
+    let all = all_counted counts c.loop-count.strategies c.loop-count.count-index c.loop-count-test.false c.loop-count.invariant in
+    λ profile. length-line_none counts profile (HaveStrategies-all counts c.requires.some) (sym all ∙ c.if-strategies-eq0.true)
 
 pub returns-then-strategies-eq0-clause-fits : goal.returns-then-strategies-eq0-clause-fits
-returns-then-strategies-eq0-clause-fits c =
-    let t = c.args.table.now in
-    let valid = c.players-player-end.ensures.valid in
-    let e : c.loop-player.strategies ≡ sum_by (λ n. n) (strategy_counts t) = all_counted t c.loop-player.strategies c.loop-player.player valid (omega (arith, ap length c.players-player-end.ensures.players)) c.loop-player.invariant in
-    few_bytes t 4 valid (omega arith)
+returns-then-strategies-eq0-clause-fits c = few_bytes _ 4 c.requires.few (omega arith)
 
 pub returns-else-strategies-eq0-clause-each : goal.returns-else-strategies-eq0-clause-each
 returns-else-strategies-eq0-clause-each c =
-    let t = c.args.table.now in
-    let valid = c.players-player-end.ensures.valid in
-    let e : c.loop-player.strategies ≡ sum_by (λ n. n) (strategy_counts t) = all_counted t c.loop-player.strategies c.loop-player.player valid (omega (arith, ap length c.players-player-end.ensures.players)) c.loop-player.invariant in
-    λ profile. length-line_text (strategy_counts t) profile (HaveStrategies-table t valid) (λ z. c.if-strategies-eq0.false (e ∙ z)) ∙ ap (λ v. 3 + 2 * v) (sym e)
+    let counts = c.args.counts.now in
+    let all = all_counted counts c.loop-count.strategies c.loop-count.count-index c.loop-count-test.false c.loop-count.invariant in
+    λ profile. length-line_text counts profile (HaveStrategies-all counts c.requires.some) (λ z. c.if-strategies-eq0.false (all ∙ z)) ∙ ap (λ v. 3 + 2 * v) (sym all)
 
 pub returns-else-strategies-eq0-clause-fits : goal.returns-else-strategies-eq0-clause-fits
 returns-else-strategies-eq0-clause-fits c =
-    let t = c.args.table.now in
-    let valid = c.players-player-end.ensures.valid in
-    let e : c.loop-player.strategies ≡ sum_by (λ n. n) (strategy_counts t) = all_counted t c.loop-player.strategies c.loop-player.player valid (omega (arith, ap length c.players-player-end.ensures.players)) c.loop-player.invariant in
-    few_bytes t (3 + 2 * c.loop-player.strategies) valid (omega (arith, e, sum-table t valid))
+    few_bytes _ (3 + 2 * c.loop-count.strategies) c.requires.few (omega (arith, few_strategies c.args.counts.now c.loop-count.strategies c.loop-count.count-index c.requires.some c.requires.players c.requires.few c.loop-count.invariant))

@@ -3,22 +3,30 @@ use Rattle.answers.proofs.AnswerLemmas.{ok_same}
 use Rattle.game_core.specs.MadeTables.{made_game}
 use Rattle.game_core.specs.declared.game.Game.{Game}
 use Rattle.game_core.specs.declared.game.Game.TheVariants.{Strategic, Extensive}
+use Rattle.game_core.specs.Tree.{GameTree}
+use Rattle.game_core.specs.TreeGame.{game_of_tree}
 use Rattle.enumpure.proofs.OneTextLaws.{text-is}
-use Rattle.gambit_tools.specs.Enumpure.{IsPureText, enumpure}
+use Rattle.subgames.proofs.OneTextLaws.{stable_text-is}
+use Rattle.gambit_tools.specs.Enumpure.{IsPureText, IsTreeText, enumpure, tree_answer}
 use Rattle.gambit_tools.specs.Make.{counts_text}
 use Rattle.gambit_tools.proofs.ReadGameLemmas.{game_in-valid}
 use Rattle.gambit_tools.proofs.CheckTextLemmas.{verdicts-tell}
 use Rattle.gambit_tools.proofs.tools.texts_hold_for_the_game.Goals as goal
 
-pure_said : (strategic : Bool) (game : Game) (text : List ℕ) → enumpure strategic game (Ok text) → IsPureText strategic game text
-pure_said true (Strategic table) text h = (h.0, h.1, text-is _ text h.2)
-pure_said false (Strategic table) text h = (h.0, h.1, text-is _ text h.2)
-pure_said true (Extensive tree) text h = (h.0, h.1, text-is _ text h.2)
-pure_said false (Extensive tree) text h = (h.0, h.1, text-is _ text h.2)
+tree_said : (agents perfect : Bool) (tree : GameTree) (text : List ℕ) → tree_answer agents perfect tree (Ok text) → IsTreeText agents perfect tree text
+tree_said true perfect tree text h = stable_text-is true perfect (game_of_tree tree) text h
+tree_said false true tree text h = stable_text-is false true (game_of_tree tree) text h
+tree_said false false tree text h = (h.0, h.1, text-is _ text h.2)
+
+pure_said : (strategic agents perfect : Bool) (game : Game) (text : List ℕ) → enumpure strategic agents perfect game (Ok text) → IsPureText strategic agents perfect game text
+pure_said true agents perfect (Strategic table) text h = (h.0, h.1, text-is _ text h.2)
+pure_said false agents perfect (Strategic table) text h = (h.0, h.1, text-is _ text h.2)
+pure_said true agents perfect (Extensive tree) text h = (h.0, h.1, text-is _ text h.2)
+pure_said false agents perfect (Extensive tree) text h = tree_said agents perfect tree text h
 
 pub returns : goal.returns
 returns c = record {
-  enumpure = λ strategic file bytes text h. (h.0, h.1, pure_said strategic h.0 text h.2);
+  enumpure = λ strategic agents perfect file bytes text h. (h.0, h.1, pure_said strategic agents perfect h.0 text h.2);
   enummixed = λ all workers file bytes text h. (h.0, h.1, c.enummixed_texts_are_extreme.ensures all h.0 text h.2);
   lcp = λ strategic file bytes text h. (h.0, h.1, c.lcp_texts_are_equilibria.ensures strategic h.0 text (game_in-valid bytes h.0 h.1) h.2);
   lp = λ strategic prices file bytes text h. (h.0, h.1, c.lp_texts_are_solutions.ensures strategic prices h.0 text (game_in-valid bytes h.0 h.1) h.2);

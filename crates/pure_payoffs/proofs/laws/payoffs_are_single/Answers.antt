@@ -2,12 +2,12 @@ use Rattle.std.specs.List.{range_with_len}
 use Rattle.answers.proofs.AnswerLemmas.{refused_by-single}
 use Rattle.frac128.specs.FirstUnfit.{all_fit}
 use Rattle.frac128.proofs.FirstUnfitLemmas.{all_fit-single}
-use Rattle.pure_payoffs.specs.Steps.{payoff_steps}
+use Rattle.pure_payoffs.specs.Steps.{steps_at}
 use Rattle.pure_payoffs.specs.declared.stop.PayoffStop.TheVariants as stops
 use Rattle.pure_payoffs.proofs.laws.payoffs_are_single.Goals as goal
 
 pub returns : goal.returns
-returns c = λ t choice.
+returns c = λ t choice k.
     refused_by-single (λ stop. stops.Range stop.0 stop.1)
-    (all_fit (payoff_steps t choice) (range_with_len 0 t.players))
-    (all_fit-single (payoff_steps t choice) (range_with_len 0 t.players))
+    (all_fit (λ i. steps_at t choice i k) (range_with_len 0 t.players))
+    (all_fit-single (λ i. steps_at t choice i k) (range_with_len 0 t.players))

@@ -21,7 +21,7 @@ owned c = owner-of c.args.play.now.tree.now _ c.args.node c.in-Move-Some.set c.i
 chosen : (c : After-index-play-node) → c.action_at-action.result < (game_of c.args.play.now).actions c.in-Move-Some.set
 chosen c =
     let within = c.requires.play.tree.sets_within c.args.node c.in-Move-Some.set c.requires.node (at-set c) in
-    rw c.action_at-action.ensures (play-chooses _ _ _ _ _ c.requires.play c.in-Move-Some.set c.in-Move-Some.player within (owned c))
+    rw c.action_at-action.ensures (play-chooses _ _ _ c.requires.play c.in-Move-Some.set c.in-Move-Some.player within (owned c))
 
 pub index-requires : goal.index-requires
 index-requires c =

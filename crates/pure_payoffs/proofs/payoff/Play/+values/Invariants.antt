@@ -3,10 +3,10 @@ use Rattle.game_theory.specs.Children.{child}
 use Rattle.rational.specs.Rational.{◌*ℚ◌}
 use Rattle.rational.specs.Sum.{sum_to}
 use Rattle.game_theory.specs.Behaviour.{pure, value}
-use Rattle.pure_payoffs.specs.Plays.{choice_of, game_of, steps_at}
+use Rattle.pure_payoffs.specs.Plays.{choice_of, game_of}
 use Rattle.pure_payoffs.specs.Shortcuts.{KeepShortcuts}
 use Rattle.frac128.specs.Steps.{StepFits}
-use Rattle.pure_payoffs.specs.Steps.{chance_steps}
+use Rattle.pure_payoffs.specs.Steps.{chance_steps, steps_at}
 use Rattle.pure_payoffs.proofs.payoff.Play.+values.Given as goal
 
 -- five times the number of nodes from this one on, and more for each call at the node

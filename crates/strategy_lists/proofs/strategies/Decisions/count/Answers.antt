@@ -1,7 +1,7 @@
 use Rattle.std.proofs.Common.{◌∙◌, refl, ap, subst, length}
 use Rattle.std.proofs.lemmas.Result.{IfOk-weaker}
 use Rattle.game_core.specs.TreeGame.{game_of_tree}
-use Rattle.choice_lists.specs.Reduced.{AreReducedBy}
+use Rattle.strategy_lists.specs.Reduced.{AreReducedBy}
 use Rattle.game_theory.specs.OwnSets.{own_counts}
 use Rattle.strategy_lists.proofs.ReducedListLemmas.{reduced_by-strategies}
 use Rattle.strategy_lists.proofs.strategies.Decisions.count.Goals as goal

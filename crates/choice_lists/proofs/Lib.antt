@@ -1,9 +1,0 @@
-pub mod AscendingOrderLemmas
-pub mod EndListLemmas
-pub mod LeftOutDecisionLemmas
-pub mod ReachedDecisionLemmas
-pub mod StepLemmas
-pub mod WalkStepLemmas
-pub mod WalkTurnLemmas
-pub mod WayCountLemmas
-pub mod WayProductLemmas

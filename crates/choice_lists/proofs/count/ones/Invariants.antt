@@ -1,5 +1,0 @@
-use Rattle.choice_lists.proofs.WayCountLemmas.{AreOnes}
-use Rattle.choice_lists.proofs.count.ones.Given as goal
-
-abbrev pub invariant-loop-decision : goal.invariant-loop-decision
-invariant-loop-decision l = AreOnes (λ v. v.items) l.decisions l.actions l.decision-index l.lists.items

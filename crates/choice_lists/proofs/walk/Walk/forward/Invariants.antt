@@ -1,5 +1,0 @@
-use Rattle.choice_lists.specs.Ends.{ComesTo}
-use Rattle.choice_lists.proofs.walk.Walk.forward.Given as goal
-
-abbrev pub invariant-loop-number : goal.invariant-loop-number
-invariant-loop-number l = ComesTo l.initial.self l.from l.self l.number

@@ -1,4 +1,0 @@
-pub mod Ends
-pub mod LeftOut
-pub mod Reduced
-pub mod Ways

@@ -1,0 +1,11 @@
+pub mod Choices
+pub mod Cuts
+pub mod Games
+pub mod Roots
+pub mod Stability
+pub mod Stable
+pub mod Stops
+pub mod Text
+pub mod Told
+pub mod ToldStops
+pub mod Values

@@ -1,0 +1,32 @@
+-- The subgames of a game tree. Source: Selten 1965.
+use Rattle.std.specs.Prelude.{ℕ, ◌<◌, ◌≡◌, ◌⊎◌, ◌↔◌, Bool, true, false, List, Contains, None, Some}
+use Rattle.std.specs.List.Sorted.{IsStrictlyIncreasing}
+use Rattle.game_theory.specs.OwnSets.{Chooses}
+use Rattle.game_theory.specs.Trees.{Tree, IsWithin}
+
+-- node k is one of chance, or no other node is in its set
+abbrev pub BeginsAlone : Tree → ℕ → Type 0
+BeginsAlone t k =
+    (s : ℕ) × (t.set k ≡ Some s)
+    × ((t.owner s ≡ None) ⊎ ((c : ℕ) → c < t.size → t.set c ≡ Some s → c ≡ k))
+
+-- each player's set with a node in the subtree of node k has all its nodes there
+abbrev pub HasWholeSets : Tree → ℕ → Type 0
+HasWholeSets t k =
+    (c d i s : ℕ) → c < t.size → d < t.size → Chooses t c i s → Chooses t d i s
+    → IsWithin t k c → IsWithin t k d
+
+-- at node k a subgame begins: at the root, and at each other inner node that is chance's or alone in
+-- its set and whose subtree cuts no player's set
+abbrev pub IsSubgameRoot : Tree → ℕ → Type 0
+IsSubgameRoot t k = (k ≡ 0) ⊎ (BeginsAlone t k × HasWholeSets t k)
+
+-- whether a choice is tested at node k: at each node where a subgame begins, or at the root alone
+abbrev pub IsTestedAt : (perfect : Bool) → Tree → ℕ → Type 0
+IsTestedAt true t k = (k < t.size) × IsSubgameRoot t k
+IsTestedAt false t k = k ≡ 0
+
+-- the nodes at which choices are tested, in ascending order
+pub record AreTestNodes (perfect : Bool) (t : Tree) (nodes : List ℕ) : Type 0 where
+  pub ascending : IsStrictlyIncreasing nodes
+  pub are_all : (k : ℕ) → Contains nodes k ↔ IsTestedAt perfect t k
