@@ -5,6 +5,7 @@ use Rattle.std.specs.List.{Contains}
 use Rattle.std.proofs.lemmas.Grind.{same_number_lists}
 use Rattle.std.proofs.lemmas.List.{get_or_default, length-set, map-append}
 use Rattle.std.proofs.lemmas.List.Elements.{Contains-append_left, Contains-append_right, Contains-append_cases, Contains-get_or}
+use Rattle.lists.proofs.ElementLemmas.{index_of}
 use Rattle.rational.specs.Rational.{ℚ}
 use Rattle.linear_systems.specs.Rows.{basic_solution, IsLexicographicRow}
 use Rattle.linear_systems.specs.Reached.{IsVariableOf, in_row, in_column}
@@ -25,7 +26,7 @@ use Rattle.basis_enum.specs.Reached.{level_of, reached_in}
 use Rattle.basis_enum.proofs.LevelLemmas.{IsNext, first_read, next_read, level_many}
 use Rattle.basis_enum.proofs.DigitLemmas.{basis_tells}
 use Rattle.lists.proofs.AscendingNumberLemmas.{in_cases, first_in, rest_in, mapped, unmapped}
-use Rattle.basis_enum.proofs.NeighbourLemmas.{place_of, nonbasics_are, exchanged_at, exchanged_are}
+use Rattle.basis_enum.proofs.NeighbourLemmas.{nonbasics_are, exchanged_at, exchanged_are}
 
 enumerable_digits : (s : LinearSystem) → IsEnumerable s → (v : ℕ) → IsVariableOf (system_of s) v → (0 < v) × (v ≤ 128)
 enumerable_digits s e v k =
@@ -171,13 +172,13 @@ is_neighbour s t u r c e ht hu hr hc same = record { entered = basic_in (get_or 
         go (in_column j hj q) = absurd (away (basis_tells u.nonbasics (slice_set t.nonbasics c (get_or t.basics r 0)) v (nonbasics_are u hu.is_tableau (held_digits s u e hu)) (exchanged_are t r c ht.is_tableau (held_digits s t e ht) hr hc) same (subst (Contains u.nonbasics) q (Contains-get_or u.nonbasics j 0 hj))))
 
     entering : Contains (slice_set t.nonbasics c (get_or t.basics r 0)) (get_or t.nonbasics c 0) → ⊥
-    entering k = let p = place_of _ _ k in let hp = subst (λ n. p.0 < n) sizes p.1 in elim (exchanged_at t.nonbasics c (get_or t.basics r 0) p.0 hc hp) [
+    entering k = let p = index_of _ _ k in let hp = subst (λ n. p.0 < n) sizes p.1 in elim (exchanged_at t.nonbasics c (get_or t.basics r 0) p.0 hc hp) [
       | inl q ↦ ht.is_tableau.reached.reached.proper.apart r c hr hc (sym q.1 ∙ p.2)
       | inr q ↦ q.0 (ht.is_tableau.reached.reached.proper.nonbasic_once p.0 c hp hc (sym q.1 ∙ p.2))
     ]
 
     staying : (i : ℕ) → i < length t.basics → i ≢ r → Contains (slice_set t.nonbasics c (get_or t.basics r 0)) (get_or t.basics i 0) → ⊥
-    staying i hi ne k = let p = place_of _ _ k in let hp = subst (λ n. p.0 < n) sizes p.1 in elim (exchanged_at t.nonbasics c (get_or t.basics r 0) p.0 hc hp) [
+    staying i hi ne k = let p = index_of _ _ k in let hp = subst (λ n. p.0 < n) sizes p.1 in elim (exchanged_at t.nonbasics c (get_or t.basics r 0) p.0 hc hp) [
       | inl q ↦ ne (ht.is_tableau.reached.reached.proper.basic_once i r hi hr (sym p.2 ∙ q.1))
       | inr q ↦ ht.is_tableau.reached.reached.proper.apart i p.0 hi hp (sym p.2 ∙ q.1)
     ]

@@ -4,8 +4,8 @@ use Rattle.std.specs.List.{Contains}
 use Rattle.std.specs.List.Sorted.{IsStrictlyIncreasing}
 use Rattle.std.proofs.lemmas.List.{length-append}
 use Rattle.std.proofs.lemmas.List.Elements.{Contains-append_left, Contains-append_right, Contains-append_cases, Contains-get_or}
+use Rattle.lists.proofs.ElementLemmas.{index_of}
 use Rattle.lists.proofs.AscendingNumberLemmas.{first_in, in_cases, increasing_push}
-use Rattle.basis_enum.proofs.NeighbourLemmas.{place_of}
 use Rattle.basis_enum.specs.Merged.{IsMerged, TakesFirst}
 
 -- all has the first i numbers of xs and the first k of ys, which are below the others
@@ -101,7 +101,7 @@ merged_all xs ys all i k hi hk m =
     record {
       ascending = m.ascending;
       size = (let e : length all ≡ i + k = m.size in let a : i ≤ length xs = m.first_in in let b : k ≤ length ys = m.second_in in omega arith);
-      first = λ v c. let p = place_of xs v c in subst (Contains all) p.2 (m.first p.0 (let w : p.0 < length xs = p.1 in omega arith));
-      second = λ v c. let p = place_of ys v c in subst (Contains all) p.2 (m.second p.0 (let w : p.0 < length ys = p.1 in omega arith));
+      first = λ v c. let p = index_of xs v c in subst (Contains all) p.2 (m.first p.0 (let w : p.0 < length xs = p.1 in omega arith));
+      second = λ v c. let p = index_of ys v c in subst (Contains all) p.2 (m.second p.0 (let w : p.0 < length ys = p.1 in omega arith));
       only = m.only;
     }

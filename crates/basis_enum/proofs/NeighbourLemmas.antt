@@ -1,23 +1,20 @@
 -- The variables of a tableau and of its neighbours
 use Rattle.std.proofs.Common.{ℕ, ◌<◌, ◌≤◌, ◌≡◌, ◌≢◌, ◌+◌, ◌^◌, sym, ap, ◌∙◌, subst, ◌⊎◌, inl, inr, List, length, get_or, slice_set}
 use Rattle.std.proofs.lemmas.Bool.{cases_eq}
-use Rattle.std.proofs.lemmas.List.{get_or-set_same, get_or-set_other, get_or_default, length-set}
+use Rattle.std.proofs.lemmas.List.{get_or-set_same, get_or-set_other, length-set}
 use Rattle.std.specs.List.{Contains}
 use Rattle.std.proofs.lemmas.List.Sums.{sum_by-set}
+use Rattle.lists.proofs.ElementLemmas.{index_of}
 use Rattle.linear_systems.specs.Reached.{in_row, in_column}
 use Rattle.lex_tableau.specs.Rows.{WholeTableau, IsTableau}
 use Rattle.basis_enum.specs.Bases.{digit, basis_of, neighbour_of, AreVariables, HaveDigits}
 use Rattle.basis_enum.proofs.DigitLemmas.{basis_below}
 
--- what is in a list stands at a place of it
-pub place_of : (xs : List ℕ) (v : ℕ) → Contains xs v → (i : ℕ) × (i < length xs) × (get_or xs i 0 ≡ v)
-place_of xs v c = (c.0, c.1, get_or_default xs c.0 0 v c.1 ∙ c.2)
-
 pub nonbasics_are : (t : WholeTableau) → IsTableau t → HaveDigits t → AreVariables t.nonbasics
 nonbasics_are t h d =
     record {
-      above = λ v c. let p = place_of t.nonbasics v c in (d v (in_column p.0 p.1 p.2)).0;
-      most = λ v c. let p = place_of t.nonbasics v c in (d v (in_column p.0 p.1 p.2)).1;
+      above = λ v c. let p = index_of t.nonbasics v c in (d v (in_column p.0 p.1 p.2)).0;
+      most = λ v c. let p = index_of t.nonbasics v c in (d v (in_column p.0 p.1 p.2)).1;
       once = λ i j a b e. h.reached.reached.proper.nonbasic_once i j a b e;
     }
 
@@ -32,7 +29,7 @@ exchanged_are t r c h d hr hc = record { above = λ v k. (bounds v k).0; most = 
     size = length-set t.nonbasics c (get_or t.basics r 0)
 
     bounds : (v : ℕ) → Contains (slice_set t.nonbasics c (get_or t.basics r 0)) v → (0 < v) × (v ≤ 128)
-    bounds v k = let p = place_of _ v k in elim (exchanged_at t.nonbasics c (get_or t.basics r 0) p.0 hc (subst (λ n. p.0 < n) size p.1)) [
+    bounds v k = let p = index_of _ v k in elim (exchanged_at t.nonbasics c (get_or t.basics r 0) p.0 hc (subst (λ n. p.0 < n) size p.1)) [
       | inl e ↦ d v (in_row r hr (sym e.1 ∙ p.2))
       | inr e ↦ d v (in_column p.0 (subst (λ n. p.0 < n) size p.1) (sym e.1 ∙ p.2))
     ]

@@ -6,7 +6,7 @@ use Rattle.std.proofs.lemmas.Bool.{cases_lt}
 use Rattle.std.proofs.lemmas.List.Elements.{Contains-get_or}
 use Rattle.std.proofs.lemmas.List.Kept.{AllPairs-from_increasing}
 use Rattle.std.proofs.lemmas.List.Sorted.{searched}
-use Rattle.basis_enum.proofs.NeighbourLemmas.{place_of}
+use Rattle.lists.proofs.ElementLemmas.{index_of}
 
 rises : (xs : List ℕ) → IsStrictlyIncreasing xs → (i j : ℕ) → i ≤ j → j < length xs → get_or xs i 0 ≤ get_or xs j 0
 rises xs h i j l k = elim (eq-or-lt_of_le l) [ inl e ↦ subst (λ n. get_or xs i 0 ≤ get_or xs n 0) e (omega arith) | inr m ↦ (let s : get_or xs i 0 < get_or xs j 0 = AllPairs-from_increasing xs h i j 0 m k in omega arith) ]
@@ -17,7 +17,7 @@ search_tells xs x (Ok i) h r = let s = searched xs x (Ok i) r (rises xs h) in (�
 search_tells xs x (Err i) h r = (
   λ e. absurd (cc),
   λ _ c.
-      let p = place_of xs x c in
+      let p = index_of xs x c in
       let s = searched xs x (Err i) r (rises xs h) in
       elim (cases_lt p.0 i) [
         | inl l ↦ (let b : get_or xs p.0 0 < x = s.1 p.0 l in let e : get_or xs p.0 0 ≡ x = p.2 in omega arith)

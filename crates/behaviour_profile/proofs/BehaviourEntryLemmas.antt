@@ -2,7 +2,8 @@
 use Rattle.std.proofs.Common.{ℕ, zero, suc, ◌+◌, ◌-◌, ◌<◌, ◌≤◌, ◌≡◌, ◌≢◌, inl, inr, None, Some, List, [], ◌∷◌, ◌++◌, length, map, get_or, slice_get, take, refl, sym, ap, ap₂, ◌∙◌, subst, arith, add-one, append_assoc}
 use Rattle.std.specs.List.{flat_map}
 use Rattle.std.proofs.lemmas.Grind.{flat_map-append}
-use Rattle.std.proofs.lemmas.List.{append-nil, take_more, get_or-map, length-map}
+use Rattle.std.proofs.lemmas.Bool.{cases_lt}
+use Rattle.std.proofs.lemmas.List.{append-nil, take_all, take_more, get_or-map, length-map}
 use Rattle.std.proofs.lemmas.Option.{none-some, same_Some, slice_get-get_or, slice_get_within, get_or_from_slice_get}
 use Rattle.game_theory.specs.TreeEntries.{own_entries, entries_below}
 use Rattle.game_theory.specs.OwnSets.{own_sets}
@@ -10,6 +11,7 @@ use Rattle.game_theory.proofs.OwnSetLemmas.{IsAmong, AscendFrom, own_sets-tell, 
 use Rattle.lists.proofs.ElementLemmas.{made-next}
 use Rattle.rational.specs.Rational.{ℚ}
 use Rattle.game_theory.specs.Lines.{listed}
+use Rattle.game_theory.proofs.ProfileLineLemmas.{listed-same}
 use Rattle.game_theory.specs.Mixed.{sure}
 use Rattle.game_theory.specs.Profiles.{IsProfile}
 use Rattle.game_theory.specs.Trees.{Tree}
@@ -40,24 +42,28 @@ pub first_for_none-place : (t : Tree) (i : ℕ) (choices : List ℕ) (place s : 
 first_for_none-place t i choices place s e at = ap (λ x. x - 1) (choice_at-place 0 (own_sets t i) choices place s (own_sets-ascend t i) e at)
 
 -- behaviours that are the same at these sets have the same entries there
-entries_at-same : (t : Tree) (b other : Behaviour) (sets : List ℕ) → ((s : ℕ) → IsAmong sets s → b s ≡ other s) → entries_at t b sets ≡ entries_at t other sets
+pub entries_at-same : (t : Tree) (b other : Behaviour) (sets : List ℕ) → ((s a : ℕ) → IsAmong sets s → a < t.actions s → b s a ≡ other s a) → entries_at t b sets ≡ entries_at t other sets
 entries_at-same t b other [] same = refl
 entries_at-same t b other (s ∷ sets) same =
-    ap₂ (λ v w. v ++ w) (ap (listed (t.actions s)) (same s (inl refl))) (entries_at-same t b other sets (λ r h. same r (inr h)))
+    ap₂ (λ v w. v ++ w) (listed-same (t.actions s) (b s) (other s) (λ a l. same s a (inl refl) l)) (entries_at-same t b other sets (λ r a h l. same r a (inr h) l))
 
 -- a player's entries in a profile are those of the player's list
 pub own_entries-profile : (t : Tree) (strategies : List (List (List ℕ))) (profile : List ℕ) (i : ℕ)
     → own_entries t (pure (first_for_none t i (list_of strategies profile i))) i ≡ own_entries t (pure (completed t strategies profile)) i
 own_entries-profile t strategies profile i =
-    entries_at-same t _ _ (own_sets t i) (λ s h. ap (λ x. sure (x - 1)) (sym (given_at-own t strategies profile s i (own_sets-tell t i s h).1)))
+    entries_at-same t _ _ (own_sets t i) (λ s a h l. ap (λ x. sure (x - 1) a) (sym (given_at-own t strategies profile s i (own_sets-tell t i s h).1)))
+
+-- the entries of one player more
+pub entries_below-next : (t : Tree) (b : Behaviour) (all now : List ℚ) (i : ℕ) → now ≡ entries_below t b i → all ≡ now ++ own_entries t b i → all ≡ entries_below t b (i + 1)
+entries_below-next t b all now i before push =
+    push ∙ ap (λ v. v ++ own_entries t b i) before ∙ sym (made-next (own_entries t b) i) ∙ ap (entries_below t b) (sym (add-one i))
 
 -- the entries of a profile with one player more
 pub entries_below-push : (t : Tree) (strategies : List (List (List ℕ))) (profile choices : List ℕ) (all now : List ℚ) (i : ℕ) → choices ≡ list_of strategies profile i → now ≡ entries_below t (pure (completed t strategies profile)) i
     → all ≡ now ++ own_entries t (pure (first_for_none t i choices)) i → all ≡ entries_below t (pure (completed t strategies profile)) (i + 1)
 entries_below-push t strategies profile choices all now i is before push =
-    let b : Behaviour = pure (completed t strategies profile) in
-    push ∙ ap₂ (λ v w. v ++ w) before (ap (λ v. own_entries t (pure (first_for_none t i v)) i) is ∙ own_entries-profile t strategies profile i)
-    ∙ sym (made-next (own_entries t b) i) ∙ ap (entries_below t b) (sym (add-one i))
+    entries_below-next t (pure (completed t strategies profile)) all now i before
+    (push ∙ ap (λ v. now ++ v) (ap (λ v. own_entries t (pure (first_for_none t i v)) i) is ∙ own_entries-profile t strategies profile i))
 
 -- ---- where the parts stand
 -- what stands at a place is among the sets
@@ -85,6 +91,13 @@ place-below_sets t i place l =
 -- a place where no own set is found is past them
 pub place-found : (t : Tree) (i place : ℕ) → place < length (own_sets t i) → slice_get (own_sets t i) place ≢ None
 place-found t i place l none = none-some _ (sym none ∙ slice_get-get_or (own_sets t i) place 0 l)
+
+-- where no own set is found, all own sets stand before
+pub own_sets-before : (t : Tree) (i place : ℕ) → slice_get (own_sets t i) place ≡ None → take place (own_sets t i) ≡ own_sets t i
+own_sets-before t i place none = take_all place (own_sets t i) (elim (cases_lt place (length (own_sets t i))) [
+  | inl l ↦ absurd (place-found t i place l none)
+  | inr l ↦ l
+])
 
 -- how many actions a set that is read has
 pub actions-counted : (t : GameTree) (sets : List InformationSet) (set : InformationSet) (s : ℕ) → sets ≡ t.sets → s < length sets → set ≡ get_or sets s set → length set.actions ≡ (game_of_tree t).actions s

@@ -1,8 +1,10 @@
 mod ActionTotalLemmas
 pub mod BehaviourEntryLemmas
+pub mod EntryStartLemmas
 pub mod FirstFaultLemmas
 pub mod GroupListLemmas
 pub mod GroupTestLemmas
+pub mod ListedEntryLemmas
 pub mod PlanShareLemmas
 pub mod PlanStopLemmas
 pub mod ProfileAnswerLemmas

@@ -135,7 +135,8 @@ profile_of [] list i s = zero_ℚ
 profile_of (n ∷ sizes) list zero s = entry_at list s
 profile_of (n ∷ sizes) list (suc i) s = profile_of sizes (drop n list) i s
 
-listed-front : (n : ℕ) (list : List ℚ) → n ≤ length list → listed n (entry_at list) ≡ take n list
+-- the first entries of a list
+pub listed-front : (n : ℕ) (list : List ℚ) → n ≤ length list → listed n (entry_at list) ≡ take n list
 listed-front zero list l = refl
 listed-front (suc n) [] l = absurd (omega (arith, l))
 listed-front (suc n) (x ∷ list) l = ap (λ v. x ∷ v) (listed-front n list (omega (arith, l)))

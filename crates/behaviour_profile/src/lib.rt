@@ -2,11 +2,15 @@
 //!
 //! Callers may rely on: `Behaviour::from_reduced` and `from_plans` give the behaviour of a profile
 //! and of plans; `try_new` takes the entries that pass all tests; `tested_entries_are_behaviours`.
+//! `starts_of` gives where the entries of each player's set begin; `from_lists` joins lists of
+//! probabilities, one for each set, and `at_set` takes one out.
 //! Definitions: `specs::EntryTests` has groups of entries and their tests, `EntryLaws` what holds
-//! of tested entries, `Plans` the behaviour of two plans and its steps.
+//! of tested entries, `Plans` the behaviour of two plans and its steps, `EntryStarts` where the
+//! entries of a player's sets begin (`AreStarts`), `ListedBehaviour` behaviour by lists.
 //! Private words: `specs::FirstActions` and `specs::Shares`, how entries are made.
 //! Lemmas for callers: `proofs::GroupListLemmas`, `FirstFaultLemmas`, `ProfileAnswerLemmas`,
-//! `TestedEntryLemmas` and `BehaviourEntryLemmas` on entries, `PlanStopLemmas` on plans.
+//! `TestedEntryLemmas`, `BehaviourEntryLemmas`, `EntryStartLemmas` and `ListedEntryLemmas` on
+//! entries, `PlanStopLemmas` on plans.
 //! A change here touches: `enumpure_trees`, `ne_checker`, `lp` and `lcp`.
 #![tactic(auto)]
 
@@ -21,7 +25,9 @@ ghost use Rattle.game_theory.specs.OwnSets.{own_sets};
 ghost use Rattle.game_theory.specs.TreeEntries.{own_entries, tree_entries};
 
 mod entries;
+mod listed;
 mod plans;
+mod starts;
 
 pub use entries::{
     ProfileFault, profiles_are_single, test_group, tested_entries_are_behaviours,
@@ -31,6 +37,7 @@ use frac128::{Frac, Memory};
 use game_core::{Tree, push_sure};
 pub use plans::{BehaviourStop, plan_behaviours_are_single};
 use reduced_form::Reduced;
+pub use starts::starts_of;
 use std::alloc::Global;
 use std::marker::Model;
 

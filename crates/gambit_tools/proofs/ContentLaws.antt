@@ -35,9 +35,8 @@ use Rattle.refusals.specs.declared.refusal.Refusal.{Refusal}
 use Rattle.refusals.specs.declared.refusal.Refusal.TheVariants as refusal
 use Rattle.gambit_tools.proofs.ConvertLaws.{convert-contents}
 use Rattle.gambit_tools.proofs.FormContentLemmas.{AreContents, IsOfContents, fitting-reasons, form-contents, strategic_form-contents, then-contents, told-contents}
-use Rattle.gambit_tools.proofs.LcpContentLemmas.{lcp-contents}
-use Rattle.gambit_tools.proofs.LpContentLemmas.{lp-contents}
 use Rattle.gambit_tools.proofs.MixedContentLemmas.{enummixed-contents}
+use Rattle.gambit_tools.proofs.PerfectContentLemmas.{lcp_tool-contents, lp_tool-contents}
 
 pub text-contents : (bytes : List ℕ) (stop : TextStop) → tokens_of bytes (Err stop) → IsOfContents (text_refusal stop)
 text-contents bytes (text_stop.Fault fault) h = refl
@@ -109,7 +108,7 @@ enumpure-contents false agents perfect (Extensive tree) = tree_answer-contents a
 pub tool_of-contents : (command : Command) (game : Game) (r : Refusal) → tool_of command game (Err r) → IsOfContents r
 tool_of-contents (Enumpure strategic agents perfect file) game r h = enumpure-contents strategic agents perfect game r h
 tool_of-contents (Enummixed all workers file) game r h = enummixed-contents all game r h
-tool_of-contents (Lcp strategic file) game r h = lcp-contents strategic game r h
-tool_of-contents (Lp strategic prices file) game r h = lp-contents strategic prices game r h
+tool_of-contents (Lcp strategic perfect file) game r h = lcp_tool-contents strategic perfect game r h
+tool_of-contents (Lp strategic prices perfect file) game r h = lp_tool-contents strategic prices perfect game r h
 tool_of-contents (Convert html row column file) game r h = convert-contents html row column game r h
 tool_of-contents _ game r h = absurd h

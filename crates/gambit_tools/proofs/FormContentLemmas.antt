@@ -43,10 +43,12 @@ use Rattle.refusals.specs.declared.refusal.Refusal.TheVariants as refusal
 -- a refusal comes from the contents, and where it names a step, that step does not fit
 abbrev pub IsOfContents : Refusal → Type 0
 IsOfContents (refusal.Range place step) = ¬ (StepFits step)
+IsOfContents (refusal.SubgameRange node place step) = ¬ (StepFits step)
 IsOfContents r = origin r ≡ Contents
 
 pub contents-origin : (r : Refusal) → IsOfContents r → origin r ≡ Contents
 contents-origin (refusal.Range place step) h = refl
+contents-origin (refusal.SubgameRange node place step) h = refl
 contents-origin r h = h
 
 -- all refusals of a stage do
@@ -134,7 +136,7 @@ quotients-reasons : (t : GameTree) (one two : List ℚ) (i : ℕ) → AreReasons
 quotients-reasons t one two i =
     fitting-reasons behaviour_refusal (quotient_stop t) (quotient_steps (game_of_tree t) (both_plans one two)) (own_actions (game_of_tree t) i) (λ stop u. u)
 
-behaviour-contents : (t : GameTree) (one two : List ℚ) (stop : BehaviourStop) → plan_behaviour t one two (Err stop) → IsOfContents (behaviour_refusal stop)
+pub behaviour-contents : (t : GameTree) (one two : List ℚ) (stop : BehaviourStop) → plan_behaviour t one two (Err stop) → IsOfContents (behaviour_refusal stop)
 behaviour-contents t one two stop (inl h) = quotients-reasons t one two 0 stop h
 behaviour-contents t one two stop (inr (_, _, inl h)) = quotients-reasons t one two 1 stop h
 behaviour-contents t one two stop (inr (_, _, inr (_, _, h))) = only-reasons behaviour_refusal _ stop h

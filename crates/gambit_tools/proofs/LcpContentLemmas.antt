@@ -32,7 +32,7 @@ problem-contents f stop (inr (_, _, inr (_, _, inl h))) =
     subst (λ s. IsOfContents (problem_refusal s)) (sym h.2) (start-contents f h.0 h.1)
 problem-contents f stop (inr (_, _, inr (_, _, inr (_, _, e)))) = cc e
 
-equilibrium-contents : (f : FormData) → AreContents (equilibrium_in f)
+pub equilibrium-contents : (f : FormData) → AreContents (equilibrium_in f)
 equilibrium-contents f =
     then-contents (refused_by problem_refusal (problem_in f)) (λ p. refused_by pivot_refusal (solved_in p) >>= λ s. only (plans_at s))
     (told-contents problem_refusal (problem_in f) (problem-contents f))

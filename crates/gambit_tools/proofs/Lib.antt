@@ -11,6 +11,7 @@ pub mod MakeLaws
 pub mod MixedContentLemmas
 pub mod MixedSingleLemmas
 pub mod OneInputLemmas
+pub mod PerfectContentLemmas
 pub mod RangeLaws
 pub mod ReadGameLemmas
 pub mod RunLaws

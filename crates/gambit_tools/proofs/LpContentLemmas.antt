@@ -48,7 +48,7 @@ program-contents f stop (inr (_, _, inr (_, _, inr (_, _, inr (_, _, inl h))))) 
 program-contents f stop (inr (_, _, inr (_, _, inr (_, _, inr (_, _, inr (_, _, e)))))) = cc e
 
 -- ---- the solution
-solution_in-contents : (f : FormData) → AreContents (solution_in f)
+pub solution_in-contents : (f : FormData) → AreContents (solution_in f)
 solution_in-contents f =
     then-contents (refused_by program_refusal (program_in f)) (λ p. refused_by pivot_refusal (optimum_in p) >>= λ o. (refused_by plan_refusal (plans_of o) >>= λ plans. only (solution f o plans)))
     (told-contents program_refusal (program_in f) (program-contents f))

@@ -26,6 +26,7 @@ formed_contents (refusal.Forgets player set first_node second_node) names = refl
 formed_contents (refusal.NotConstant first second first_sum second_sum) names = refl
 formed_contents (refusal.TooLarge counted count limit) names = refl
 formed_contents (refusal.Range place step) names = refl
+formed_contents (refusal.SubgameRange node place step) names = refl
 formed_contents (refusal.BadLine line) names = refl
 formed_contents (refusal.NoSuchPlayer number) names = refl
 formed_contents (refusal.SamePlayer number) names = refl

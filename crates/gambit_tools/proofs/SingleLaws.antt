@@ -19,6 +19,7 @@ use Rattle.subgames.specs.Stops.{stable_text}
 use Rattle.subgames.proofs.OneTextLaws.{stable_text-single}
 use Rattle.refusals.specs.Told.{choice_refusal, form_refusal, list_refusal}
 use Rattle.two_player_tools.specs.GameTypes.{IsGame}
+use Rattle.two_player_tools.specs.Perfect.{lcp_tool, lp_tool}
 use Rattle.two_player_tools.specs.StrategicForms.{strategic_form}
 use Rattle.two_player_tools.proofs.StrategicFormLemmas.{strategic_form-single}
 use Rattle.gambit_tools.specs.Games.{game_in}
@@ -28,10 +29,7 @@ use Rattle.gambit_tools.proofs.CheckContentLemmas.{ChecksAreSingle, check-single
 use Rattle.gambit_tools.proofs.ConvertLaws.{convert-single}
 use Rattle.two_player_tools.proofs.FormSingleLemmas.{RecallsAreSingle}
 use Rattle.gambit_tools.proofs.GameSingleLemmas.{game_in-single}
-use Rattle.two_player_tools.proofs.KeptPropertyLemmas.{TreesAreGames}
 use Rattle.gambit_tools.proofs.ReadGameLemmas.{game_in-valid}
-use Rattle.two_player_tools.proofs.LcpSingleLemmas.{lcp-single}
-use Rattle.two_player_tools.proofs.LpSingleLemmas.{lp-single}
 use Rattle.gambit_tools.proofs.MakeLaws.{make-single}
 use Rattle.gambit_tools.proofs.MixedSingleLemmas.{enummixed-single}
 
@@ -59,20 +57,25 @@ enumpure-single true agents perfect (Extensive tree) = table_text-single (Extens
 enumpure-single false agents perfect (Extensive tree) = tree-single agents perfect tree
 
 -- ---- commands
+-- the tools for two players have at most one answer
+pub record SolutionsAreSingle : Type 0 where
+  pub lp : (strategic prices perfect : Bool) (game : Game) → IsGame game → IsSingle (lp_tool strategic prices perfect game)
+  pub lcp : (strategic perfect : Bool) (game : Game) → IsGame game → IsSingle (lcp_tool strategic perfect game)
+
 -- each tool that is built has a line
-tool_of-single : (command : Command) (game : Game) → TreesAreGames → RecallsAreSingle → IsGame game → IsSingle (tool_of command game)
-tool_of-single (Enumpure strategic agents perfect file) game laws recalls w = enumpure-single strategic agents perfect game
-tool_of-single (Enummixed all workers file) game laws recalls w = enummixed-single all game
-tool_of-single (Lcp strategic file) game laws recalls w = lcp-single strategic game laws recalls w
-tool_of-single (Lp strategic prices file) game laws recalls w = lp-single strategic prices game laws recalls w
-tool_of-single (Convert html row column file) game laws recalls w = convert-single html row column game
-tool_of-single _ game laws recalls w = λ one other h k. absurd h
+tool_of-single : (command : Command) (game : Game) → SolutionsAreSingle → IsGame game → IsSingle (tool_of command game)
+tool_of-single (Enumpure strategic agents perfect file) game solutions w = enumpure-single strategic agents perfect game
+tool_of-single (Enummixed all workers file) game solutions w = enummixed-single all game
+tool_of-single (Lcp strategic perfect file) game solutions w = solutions.lcp strategic perfect game w
+tool_of-single (Lp strategic prices perfect file) game solutions w = solutions.lp strategic prices perfect game w
+tool_of-single (Convert html row column file) game solutions w = convert-single html row column game
+tool_of-single _ game solutions w = λ one other h k. absurd h
 
-game_answer-single : TreesAreGames → RecallsAreSingle → (command : Command) (bytes : List ℕ) → IsSingle (game_answer command bytes)
-game_answer-single laws recalls command bytes =
-    bind-single (game_in bytes) (tool_of command) (game_in-single bytes) (λ game h. tool_of-single command game laws recalls (game_in-valid bytes game h))
+game_answer-single : SolutionsAreSingle → (command : Command) (bytes : List ℕ) → IsSingle (game_answer command bytes)
+game_answer-single solutions command bytes =
+    bind-single (game_in bytes) (tool_of command) (game_in-single bytes) (λ game h. tool_of-single command game solutions (game_in-valid bytes game h))
 
-pub answer_of-single : TreesAreGames → RecallsAreSingle → ChecksAreSingle → (command : Command) (contents : List (List ℕ)) → IsSingle (answer_of command contents)
-answer_of-single laws recalls checks (Check strategic game lines) contents = check-single recalls checks strategic (slice_index_or contents 0 []) (slice_index_or contents 1 [])
-answer_of-single laws recalls checks (Make number rows columns workers) contents = make-single number rows columns
-answer_of-single laws recalls checks command contents = game_answer-single laws recalls command (slice_index_or contents 0 [])
+pub answer_of-single : SolutionsAreSingle → RecallsAreSingle → ChecksAreSingle → (command : Command) (contents : List (List ℕ)) → IsSingle (answer_of command contents)
+answer_of-single solutions recalls checks (Check strategic game lines) contents = check-single recalls checks strategic (slice_index_or contents 0 []) (slice_index_or contents 1 [])
+answer_of-single solutions recalls checks (Make number rows columns workers) contents = make-single number rows columns
+answer_of-single solutions recalls checks command contents = game_answer-single solutions command (slice_index_or contents 0 [])

@@ -10,8 +10,7 @@ use Rattle.gambit_tools.specs.Convert.{convert}
 use Rattle.gambit_tools.specs.Enummixed.{enummixed}
 use Rattle.gambit_tools.specs.Enumpure.{enumpure}
 use Rattle.gambit_tools.specs.Games.{game_in}
-use Rattle.two_player_tools.specs.Lcp.{lcp}
-use Rattle.two_player_tools.specs.Lp.{lp}
+use Rattle.two_player_tools.specs.Perfect.{lcp_tool, lp_tool}
 use Rattle.gambit_tools.specs.Make.{make}
 use Rattle.refusals.specs.declared.refusal.Refusal.{Refusal}
 
@@ -19,8 +18,8 @@ use Rattle.refusals.specs.declared.refusal.Refusal.{Refusal}
 abbrev pub inputs_of : Command → List InputName
 inputs_of (Enumpure strategic agents perfect file) = file ∷ []
 inputs_of (Enummixed all workers file) = file ∷ []
-inputs_of (Lcp strategic file) = file ∷ []
-inputs_of (Lp strategic prices file) = file ∷ []
+inputs_of (Lcp strategic perfect file) = file ∷ []
+inputs_of (Lp strategic prices perfect file) = file ∷ []
 inputs_of (Convert html row column file) = file ∷ []
 inputs_of (Check strategic game lines) = Some game ∷ lines ∷ []
 inputs_of (Make number rows columns workers) = []
@@ -29,8 +28,8 @@ inputs_of (Make number rows columns workers) = []
 abbrev pub tool_of : Command → Game → Answer Refusal (List ℕ)
 tool_of (Enumpure strategic agents perfect file) game = enumpure strategic agents perfect game
 tool_of (Enummixed all workers file) game = enummixed all game
-tool_of (Lcp strategic file) game = lcp strategic game
-tool_of (Lp strategic prices file) game = lp strategic prices game
+tool_of (Lcp strategic perfect file) game = lcp_tool strategic perfect game
+tool_of (Lp strategic prices perfect file) game = lp_tool strategic prices perfect game
 tool_of (Convert html row column file) game = convert html row column game
 tool_of _ game = λ answer. ⊥
 

@@ -1,21 +1,21 @@
 -- What each text of a tool says of the game that the bytes of its input stand for, or that is made; and what each refusal
 -- that names a step says of it.
-use Rattle.std.specs.Prelude.{ℕ, Bool, List, [], ◌∷◌, Ok, Err}
+use Rattle.std.specs.Prelude.{ℕ, ◌≡◌, Bool, List, [], ◌∷◌, Ok, Err}
 use Rattle.frac128.specs.Steps.{Step, StepFits}
 use Rattle.game_core.specs.declared.game.Game.{Game}
 use Rattle.game_core.specs.MadeTables.{made_game}
 use Rattle.outside.specs.Inputs.{InputName}
 use Rattle.words.specs.Words.{Command, Enumpure, Enummixed, Lcp, Lp, Check, Make}
-use Rattle.two_player_tools.specs.LcpLaws.{IsEquilibriumText}
-use Rattle.two_player_tools.specs.LpLaws.{IsSolved}
+use Rattle.two_player_tools.specs.LcpLaws.{IsLcpText}
+use Rattle.two_player_tools.specs.LpLaws.{IsLpText}
 use Rattle.gambit_tools.specs.Check.{IsCheckText}
 use Rattle.gambit_tools.specs.Commands.{answer_of}
 use Rattle.gambit_tools.specs.Enummixed.{IsExtremeText}
 use Rattle.gambit_tools.specs.Enumpure.{IsPureText}
 use Rattle.gambit_tools.specs.Games.{game_in}
 use Rattle.gambit_tools.specs.Make.{IsCountsText}
+use Rattle.refusals.specs.declared.refusal.Refusal.{Refusal}
 use Rattle.refusals.specs.declared.refusal.Refusal.TheVariants as refusal
-use Rattle.refusals.specs.declared.refusal.Site.{Site}
 
 -- Each text of `enumpure` lists the pure equilibria, that of `enummixed` the extreme ones, that of `lcp` is
 -- an equilibrium, that of `lp` a solution, that of `check` tells of each line, and that of `make` counts.
@@ -26,12 +26,12 @@ pub record TextsHoldForTheGame : Type 0 where
   pub enummixed : (all : Bool) (workers : ℕ) (file : InputName) (bytes text : List ℕ)
       → answer_of (Enummixed all workers file) (bytes ∷ []) (Ok text)
       → (game : Game) × game_in bytes (Ok game) × IsExtremeText game text
-  pub lcp : (strategic : Bool) (file : InputName) (bytes text : List ℕ)
-      → answer_of (Lcp strategic file) (bytes ∷ []) (Ok text)
-      → (game : Game) × game_in bytes (Ok game) × IsEquilibriumText strategic game text
-  pub lp : (strategic prices : Bool) (file : InputName) (bytes text : List ℕ)
-      → answer_of (Lp strategic prices file) (bytes ∷ []) (Ok text)
-      → (game : Game) × game_in bytes (Ok game) × IsSolved strategic prices game text
+  pub lcp : (strategic perfect : Bool) (file : InputName) (bytes text : List ℕ)
+      → answer_of (Lcp strategic perfect file) (bytes ∷ []) (Ok text)
+      → (game : Game) × game_in bytes (Ok game) × IsLcpText strategic perfect game text
+  pub lp : (strategic prices perfect : Bool) (file : InputName) (bytes text : List ℕ)
+      → answer_of (Lp strategic prices perfect file) (bytes ∷ []) (Ok text)
+      → (game : Game) × game_in bytes (Ok game) × IsLpText strategic prices perfect game text
   pub check : (strategic : Bool) (name : List ℕ) (file : InputName) (bytes lines text : List ℕ)
       → answer_of (Check strategic name file) (bytes ∷ lines ∷ []) (Ok text)
       → (game : Game) × game_in bytes (Ok game) × IsCheckText strategic game lines text
@@ -39,8 +39,14 @@ pub record TextsHoldForTheGame : Type 0 where
       → answer_of (Make number rows columns workers) [] (Ok text)
       → IsCountsText (made_game number rows columns) text
 
+-- a refusal names this step
+abbrev pub NamesStep : Refusal → Step → Type 0
+NamesStep (refusal.Range place named) step = named ≡ step
+NamesStep (refusal.SubgameRange node place named) step = named ≡ step
+NamesStep _ step = ⊥
+
 -- The step that a refusal names does not fit.
 abbrev pub RangesDoNotFit : Type 0
 RangesDoNotFit =
-    (command : Command) (contents : List (List ℕ)) (place : Site) (step : Step)
-    → answer_of command contents (Err (refusal.Range place step)) → ¬ (StepFits step)
+    (command : Command) (contents : List (List ℕ)) (r : Refusal) (step : Step)
+    → answer_of command contents (Err r) → NamesStep r step → ¬ (StepFits step)

@@ -11,17 +11,19 @@ use std::alloc::Global;
 use two_player_tools::lp_text;
 
 /// Reads the game in a file, or on standard input where no file is named, and prints an equilibrium
-/// of it, with the value and the prices where they are asked for.
+/// of it, with the value and the prices where they are asked for: of a tree, where `perfect` is set,
+/// one that is found subgame by subgame.
 pub fn lp<I: Inputs>(
     alloc: Global,
     strategic: bool,
     prices: bool,
+    perfect: bool,
     file: Option<String>,
     inputs: &mut I,
 ) -> Result<Vec<u8>, Refusal>
-    ensures { IsComputed (LpCommand strategic prices (option_map string_bytes file))
+    ensures { IsComputed (LpCommand strategic prices perfect (option_map string_bytes file))
         (I.seen inputs.old) (I.seen inputs.new) (map_ok result (λ text. text.items)) }
 {
     let game = read_game(alloc, inputs, file)?;
-    lp_text(alloc, strategic, prices, &game)
+    lp_text(alloc, strategic, prices, perfect, &game)
 }

@@ -21,7 +21,6 @@ use crate::mixed::{enummixed, enummixed_texts_are_extreme};
 use crate::output::write_text;
 use crate::pure::enumpure;
 use enummixed::pairs_are_as_many_as_extreme_equilibria;
-use game_core::{sets_are_numbered_by_first_nodes, trees_are_game_trees};
 use ne_checker::{
     table_checks_are_single, table_checks_tell_equilibria, tree_checks_are_single,
     tree_checks_tell_equilibria,
@@ -32,7 +31,7 @@ use refusals::Refusal;
 use std::alloc::Global;
 use std::marker::Sync;
 use std::thread::Threads;
-use two_player_tools::{lcp_texts_are_equilibria, lp_texts_are_solutions};
+use two_player_tools::{lcp_texts_are_equilibria, lp_texts_are_solutions, solutions_are_single};
 use words::{Settings, SettingsStop, read_settings};
 
 // Reads the inputs that the settings name, and computes the text. Each tool has an arm.
@@ -60,12 +59,17 @@ fn compute<R: Threads + Sync, I: Inputs, G: Gate>(
         Settings::Enummixed { all, workers, file } => enummixed(
             rt, alloc, all, workers, file, inputs, gate,
         ),
-        Settings::Lcp { strategic, file } => lcp(alloc, strategic, file, inputs),
+        Settings::Lcp {
+            strategic,
+            perfect,
+            file,
+        } => lcp(alloc, strategic, perfect, file, inputs),
         Settings::Lp {
             strategic,
             prices,
+            perfect,
             file,
-        } => lp(alloc, strategic, prices, file, inputs),
+        } => lp(alloc, strategic, prices, perfect, file, inputs),
         Settings::Make {
             number,
             rows,
@@ -199,8 +203,7 @@ pub fn answers_are_single()
     ensures { (command : Command) (contents : List (List ℕ))
         → IsSingle (answer_of command contents) }
 {
-    trees_are_game_trees();
-    sets_are_numbered_by_first_nodes();
+    solutions_are_single();
     recalls_are_single();
     table_checks_are_single();
     tree_checks_are_single();

@@ -4,7 +4,7 @@ pub mod GameLemmas
 pub mod LimitLemmas
 mod NumberLemmas
 mod PlayerSetLemmas
-mod PrefixOrderLemmas
+pub mod PrefixOrderLemmas
 pub mod StrideLemmas
 pub mod TableCountLemmas
-mod TreeLaws
+pub mod TreeLaws

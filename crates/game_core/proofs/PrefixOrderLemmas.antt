@@ -161,6 +161,18 @@ differ sets k (node ∷ nodes) (q ∷ free) rest (suc i) (suc j) h distinct befo
     apart : AreBefore k free
     apart p among = before p (inr among)
 
+-- the sets of the nodes before tell where a node hangs
+pub branch_at-same :
+    (sets : List InformationSet) (k : ℕ) (xs ys : List Node) (free rest rest_too : List OpenBranch) → AreInPrefixOrder sets k xs free rest → AreInPrefixOrder sets k ys free rest_too → length xs ≡ length ys
+    → ((j : ℕ) → j < length xs → get_or (map (λ node. node.set) xs) j None ≡ get_or (map (λ node. node.set) ys) j None) → (j : ℕ) → j < length xs → branch_at xs j ≡ branch_at ys j
+branch_at-same sets k [] ys free rest rest_too h g many alike j below = absurd (omega (arith, below))
+branch_at-same sets k (x ∷ xs) [] free rest rest_too h g many alike j below = absurd (omega (arith, many))
+branch_at-same sets k (x ∷ xs) (y ∷ ys) [] rest rest_too h g many alike j below = absurd h
+branch_at-same sets k (x ∷ xs) (y ∷ ys) (branch ∷ free) rest rest_too h g many alike zero below = h.0 ∙ sym g.0
+branch_at-same sets k (x ∷ xs) (y ∷ ys) (branch ∷ free) rest rest_too h g many alike (suc j) below =
+    let other = subst (λ set. AreInPrefixOrder sets (suc k) ys (branches_after (Some k) 0 (action_count sets set) ++ free) rest_too) (sym (alike 0 (omega arith))) g.1 in
+    branch_at-same sets (suc k) xs ys _ rest rest_too h.1 other (omega (arith, many)) (λ i few. alike (suc i) (omega (arith, few))) j (omega (arith, below))
+
 -- the nodes of a tree: its root hangs nowhere
 module _ (sets : List InformationSet) (nodes : List Node) (ordered : AreInPrefixOrder sets 0 nodes ((None, 0) ∷ []) []) where
   -- there is a root

@@ -8,13 +8,14 @@ use Rattle.rational.specs.Rational.{◌≤ℚ◌, zero_ℚ, one_ℚ}
 use Rattle.rational.specs.Sum.{sum_to}
 use Rattle.game_theory.specs.FirstNodes.{AreNumberedByFirstNodes}
 use Rattle.game_theory.specs.Trees.{IsTree as is_game_tree, IsChild, IsChanceDistribution}
+use Rattle.game_theory.proofs.IndexLemmas.{numbers_with-tell}
 use Rattle.game_core.specs.declared.tree.Action.{Action}
 use Rattle.game_core.specs.Tree.{GameTree, IsGameTree, InformationSet, IsBelow, AreChances, ProbabilitiesFit, SetFits, action_count, probability_at}
 use Rattle.game_core.specs.TreeGame.{game_of_tree, or_zero}
 use Rattle.game_core.proofs.PrefixOrderLemmas.{child_at, hangs_at, branch_at, root, same_node, within}
 
 -- a part of the element at a place
-part_of : {X Y : Type 0} (f : X → Y) (xs : List X) (k : ℕ) (x : X) (d : Y) → slice_get xs k ≡ Some x → get_or (map f xs) k d ≡ f x
+pub part_of : {X Y : Type 0} (f : X → Y) (xs : List X) (k : ℕ) (x : X) (d : Y) → slice_get xs k ≡ Some x → get_or (map f xs) k d ≡ f x
 part_of f [] k x d is = cc
 part_of f (y ∷ xs) zero x d is = ap f (same_Some y x is)
 part_of f (y ∷ xs) (suc k) x d is = part_of f xs k x d is
@@ -79,3 +80,11 @@ numbered_by_first_nodes t valid k s r inside is below =
     let here = slice_get-get_or names k None (rw length-map inside) ∙ ap Some is in
     let earlier = valid.sets_in_order k s r here below in
     (earlier.0, earlier.1, get_or_from_slice_get names earlier.0 (Some r) None earlier.2)
+
+-- each set of a tree has a node
+pub set-used : (t : GameTree) → IsGameTree t → (r : ℕ) → r < length t.sets → (j : ℕ) × (j < length t.nodes) × ((game_of_tree t).set j ≡ Some r)
+set-used t valid r below =
+    let found = set_fits t valid r below in
+    let first = slice_get-get_or found.0.members 0 0 found.2.some_member in
+    let named = numbers_with-tell (game_of_tree t).set r (length t.nodes) 0 (get_or found.0.members 0 0) (ap (λ ms. slice_get ms 0) (sym found.2.members_are) ∙ first) in
+    (get_or found.0.members 0 0, named.0, named.1)

@@ -21,5 +21,6 @@ pub mod RecallExamples
 pub mod ReplyLemmas
 pub mod SubtreeLemmas
 pub mod SureStrategyLemmas
+pub mod TreeReplyLemmas
 pub mod TreeTestLemmas
 pub mod ValueLemmas

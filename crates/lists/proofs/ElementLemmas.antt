@@ -1,10 +1,10 @@
 -- Lists and their elements.
 use Rattle.std.proofs.Common.{◌≡◌, ℕ, zero, suc, ◌+◌, ◌<◌, ◌⊎◌, inl, inr, Bool, false, Some, List, [], ◌∷◌, ◌++◌, length, get_or, set, slice_get, replicate, refl, sym, ap, ◌∙◌, subst, append_assoc, add-zero, zero-add, arith}
-use Rattle.std.specs.Prelude.{All, filter}
+use Rattle.std.specs.Prelude.{All, Contains, filter}
 use Rattle.std.specs.List.{range_with_len, flat_map}
 use Rattle.std.proofs.lemmas.Bool.{cases_lt}
 use Rattle.std.proofs.lemmas.Option.{same_Some, slice_get_within, get_or_from_slice_get}
-use Rattle.std.proofs.lemmas.List.{append-nil, get_or-replicate, get_or_past, length-replicate}
+use Rattle.std.proofs.lemmas.List.{append-nil, get_or-replicate, get_or_default, get_or_past, length-replicate}
 use Rattle.std.proofs.lemmas.List.Elements.{All-nil, All-cons, All-head, All-tail}
 
 -- the element at a place of a list
@@ -12,6 +12,10 @@ pub element : {A : Type 0} (xs : List A) (k : ℕ) → k < length xs → (x : A)
 element [] k below = absurd (omega arith)
 element (x ∷ xs) zero below = (x, refl)
 element (x ∷ xs) (suc k) below = element xs k (omega arith)
+
+-- where a number stands in a list
+pub index_of : (xs : List ℕ) (x : ℕ) → Contains xs x → (i : ℕ) × (i < length xs) × (get_or xs i 0 ≡ x)
+index_of xs x found = (found.0, found.1, get_or_default xs found.0 0 x found.1 ∙ found.2)
 
 -- the element that was put at the end
 pub slice_get-end : {A : Type 0} (xs : List A) (x : A) → slice_get (xs ++ x ∷ []) (length xs) ≡ Some x

@@ -1,16 +1,14 @@
 -- Behaviours and choices that are the same at the players' sets have the same steps.
 use Rattle.std.proofs.Common.{ℕ, zero, suc, ◌<◌, ◌≡◌, inl, inr, Option, None, Some, List, [], ◌∷◌, ◌++◌, length, get_or, refl, sym, ap, ap₂, ◌∙◌, arith}
 use Rattle.std.specs.Prelude.{◌&&◌, if◌then◌else◌, nat_lt, reverse}
-use Rattle.std.specs.List.{flat_map, range_with_len}
+use Rattle.std.specs.List.{flat_map}
 use Rattle.std.proofs.lemmas.Option.{slice_get-get_or}
-use Rattle.lists.proofs.ElementLemmas.{made-next}
 use Rattle.rational.specs.Rational.{ℚ, ◌*ℚ◌, zero_ℚ}
-use Rattle.rational.specs.Sum.{sum_to}
 use Rattle.rational.proofs.SumLemmas.{sum_to-same}
 use Rattle.frac128.specs.Steps.{unfit, Step}
 use Rattle.frac128.specs.declared.steps.Op.TheVariants.{Add, Mul}
 use Rattle.game_theory.specs.Trees.{Tree, IsTree}
-use Rattle.game_theory.specs.Behaviour.{Behaviour, action_probability, value}
+use Rattle.game_theory.specs.Behaviour.{Behaviour}
 use Rattle.game_theory.specs.Children.{child}
 use Rattle.game_theory.specs.OwnSets.{own_sets}
 use Rattle.game_theory.proofs.IndexLemmas.{numbers_with-tell}
@@ -19,9 +17,9 @@ use Rattle.game_theory.proofs.OwnSetLemmas.{IsAmong}
 use Rattle.best_replies.specs.Replies.{reply_value}
 use Rattle.best_replies.proofs.ReplyValueLemmas.{reply_value-agree}
 use Rattle.best_replies.proofs.WeightLemmas.{own_or_not, if_own, if_other}
-use Rattle.pure_payoffs.specs.Steps.{branch_steps, chance_steps}
-use Rattle.ne_checker.specs.TreeSteps.{sum_steps, child_value, after_steps, after_sum, reply_steps_to, reply_steps, members, member_child, action_steps, decision_steps, player_steps, now_node_steps, now_steps_to, has_factor, weight_step, weight_steps}
-use Rattle.ne_checker.proofs.AlikeBehaviourLemmas.{AreAlike, branch-alike, probability-alike, reply_value-alike, value-alike, weight-alike}
+use Rattle.ne_checker.specs.TreeSteps.{sum_steps, child_value, after_steps, after_sum, reply_steps_to, reply_steps, members, member_child, action_steps, decision_steps, player_steps, has_factor, weight_step, weight_steps}
+use Rattle.ne_checker.proofs.AlikeBehaviourLemmas.{AreAlike, branch-alike, now_steps-alike, reply_value-alike, weight-alike}
+use Rattle.ne_checker.proofs.TableSingleLemmas.{made-same}
 use Rattle.ne_checker.proofs.TreeOwnSetLemmas.{turned}
 
 -- ---- lists of steps
@@ -31,27 +29,6 @@ sum_steps-alike zero v u f g e h = refl
 sum_steps-alike (suc n) v u f g e h =
     ap₂ (λ x y. x ++ y) (ap₂ (λ x y. x ++ y) (sum_steps-alike n v u f g (λ a l. e a (omega arith)) (λ a l. h a (omega arith))) (h n (omega arith)))
     (ap₂ (λ x y. unfit Add x y ∷ []) (sum_to-same n v u (λ a l. e a (omega arith))) (e n (omega arith)))
-
--- sums of products
-products-alike : (n : ℕ) (p q v u : ℕ → ℚ) → ((a : ℕ) → a < n → p a ≡ q a) → ((a : ℕ) → a < n → v a ≡ u a) → sum_to n (λ a. p a *ℚ v a) ≡ sum_to n (λ a. q a *ℚ u a)
-products-alike n p q v u d e = sum_to-same n _ _ (λ a l. ap₂ (λ x y. x *ℚ y) (d a l) (e a l))
-
--- the steps of such sums
-chances-alike : (n : ℕ) (p q v u : ℕ → ℚ) (f g : ℕ → List Step) → ((a : ℕ) → a < n → p a ≡ q a) → ((a : ℕ) → a < n → v a ≡ u a) → ((a : ℕ) → a < n → f a ≡ g a) → chance_steps n p v f ≡ chance_steps n q u g
-chances-alike zero p q v u f g d e h = refl
-chances-alike (suc n) p q v u f g d e h =
-    let before : (a : ℕ) → a < n → p a ≡ q a = λ a l. d a (omega arith) in
-    let values : (a : ℕ) → a < n → v a ≡ u a = λ a l. e a (omega arith) in
-    let chance = d n (omega arith) in
-    let worth = e n (omega arith) in
-    let steps = h n (omega arith) in
-    let sums = products-alike n p q v u before values in
-    ap₂ (λ x y. x ++ y) (chances-alike n p q v u f g before values (λ a l. h a (omega arith))) (λ j. branch_steps (chance j) (sums j) (worth j) (steps j))
-
--- parts of the numbers from 0 on
-parts-alike : (n : ℕ) (f g : ℕ → List Step) → ((a : ℕ) → a < n → f a ≡ g a) → flat_map f (range_with_len 0 n) ≡ flat_map g (range_with_len 0 n)
-parts-alike zero f g h = refl
-parts-alike (suc n) f g h = made-next f n ∙ ap₂ (λ x y. x ++ y) (parts-alike n f g (λ a l. h a (omega arith))) (h n (omega arith)) ∙ sym (made-next g n)
 
 -- parts of a list from its last element on
 turned-alike : (xs : List ℕ) (f g : ℕ → List Step) → ((x : ℕ) → IsAmong xs x → f x ≡ g x) → flat_map f (reverse xs) ≡ flat_map g (reverse xs)
@@ -64,26 +41,9 @@ members-are t s j l = let found = numbers_with-tell t.set s t.size j _ (slice_ge
 
 -- ---- behaviours and choices
 module _ (t : Tree) (b behaviour : Behaviour) (i : ℕ) (choice other : ℕ → ℕ) (w : IsTree t) (alike : AreAlike t b behaviour) (chosen : (s : ℕ) → s < t.sets → t.owner s ≡ Some i → choice s < t.actions s) (same : (s : ℕ) → s < t.sets → t.owner s ≡ Some i → choice s ≡ other s) where
-  -- the steps of what the behaviour pays, node by node
-  now_node-alike : (f g : ℕ → List Step) (k : ℕ) → k < t.size → ((c : ℕ) → c < t.size → f c ≡ g c) → now_node_steps t b i f k (t.set k) ≡ now_node_steps t behaviour i g k (t.set k)
-  now_node-alike f g k l h = go (t.set k) refl
-    where
-      go : (o : Option ℕ) → t.set k ≡ o → now_node_steps t b i f k o ≡ now_node_steps t behaviour i g k o
-      go None e = refl
-      go (Some s) e =
-          let chance : (a : ℕ) → a < t.actions s → action_probability t b s a ≡ action_probability t behaviour s a = λ a m. probability-alike t b behaviour w alike s a (w.sets_within k s l e) m in
-          let worth : (a : ℕ) → a < t.actions s → value t b i (child t k a) ≡ value t behaviour i (child t k a) = λ a m. value-alike t b behaviour w alike i (child t k a) (child-later t k s a w l e m).1 in
-          ap₂ (λ x y. x ++ unfit Add (t.pays k i) y ∷ [])
-          (chances-alike (t.actions s) _ _ _ _ (λ a. f (child t k a)) (λ a. g (child t k a)) chance worth (λ a m. h (child t k a) (child-later t k s a w l e m).1))
-          (products-alike (t.actions s) _ _ _ _ chance worth)
-
-  now-alike : (d k : ℕ) → k < t.size → now_steps_to t b i d k ≡ now_steps_to t behaviour i d k
-  now-alike zero k l = refl
-  now-alike (suc d) k l = now_node-alike (now_steps_to t b i d) (now_steps_to t behaviour i d) k l (λ c m. now-alike d c m)
-
   -- the steps of the weights
   weights-alike : weight_steps t b i ≡ weight_steps t behaviour i
-  weights-alike = parts-alike t.size _ _ step-alike
+  weights-alike = made-same (weight_step t b i) (weight_step t behaviour i) 0 t.size (λ c h l. step-alike c (omega (arith, l)))
     where
       step-alike : (c : ℕ) → c < t.size → weight_step t b i c ≡ weight_step t behaviour i c
       step-alike zero l = refl
@@ -143,7 +103,7 @@ module _ (t : Tree) (b behaviour : Behaviour) (i : ℕ) (choice other : ℕ → 
   -- the steps of the player
   pub steps-alike : player_steps t b i choice ≡ player_steps t behaviour i other
   steps-alike =
-      let now = now-alike t.size 0 w.some_node in
-      let decided = turned-alike (own_sets t i) (decision_steps t b i choice) (decision_steps t behaviour i other) (λ s among. parts-alike (t.actions s) _ _ (λ a m. action-alike s a m)) in
+      let now = now_steps-alike t b behaviour w alike i 0 w.some_node in
+      let decided = turned-alike (own_sets t i) (decision_steps t b i choice) (decision_steps t behaviour i other) (λ s among. made-same (action_steps t b i choice s) (action_steps t behaviour i other s) 0 (t.actions s) (λ a h m. action-alike s a (omega (arith, m)))) in
       let replies = reply-alike t.size 0 w.some_node in
       λ j. now j ++ (weights-alike j ++ decided j ++ replies j)

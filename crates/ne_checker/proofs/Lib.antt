@@ -23,7 +23,6 @@ pub mod TreeReplyLemmas
 pub mod TreeReplyStepLemmas
 pub mod TreeSidePartLemmas
 pub mod TreeSingleLemmas
-pub mod TreeStartStepLemmas
 pub mod TreeSumLemmas
 pub mod TreeVerdictLaws
 pub mod TreeWeightStepLemmas

@@ -6,9 +6,9 @@ use Rattle.game_theory.specs.Trees.{Tree, IsTree}
 use Rattle.game_theory.specs.Behaviour.{Behaviour}
 use Rattle.game_theory.specs.TreeEntries.{tree_entries}
 use Rattle.best_replies.proofs.WeightLemmas.{own_or_not}
-use Rattle.ne_checker.specs.TreeStarts.{AreStarts, AreStartsTo, ComesTo}
+use Rattle.behaviour_profile.specs.EntryStarts.{AreStarts, AreStartsTo, ComesTo}
 use Rattle.ne_checker.proofs.AlikeBehaviourLemmas.{AreAlike}
-use Rattle.ne_checker.proofs.TreeStartStepLemmas.{starts-all, starts-other, starts-own, starts-player, starts-read}
+use Rattle.behaviour_profile.proofs.EntryStartLemmas.{starts-all, starts-other, starts-own, starts-player, starts-read}
 
 -- starts of the sets of the players before one, and of this player's sets below n
 abbrev SomeStarts : Tree → ℕ → ℕ → Type 0

@@ -21,7 +21,7 @@ use Rattle.ne_checker.specs.declared.tables.TableVerdict.{TableVerdict}
 use Rattle.ne_checker.specs.declared.tables.TableVerdict.TheVariants.{Equilibrium, Better, Range}
 
 -- what is made of numbers that give the same
-made-same : (f h : ℕ → List Step) (a n : ℕ) → ((k : ℕ) → a ≤ k → k < a + n → f k ≡ h k) → flat_map f (range_with_len a n) ≡ flat_map h (range_with_len a n)
+pub made-same : {X : Type 0} (f h : ℕ → List X) (a n : ℕ) → ((k : ℕ) → a ≤ k → k < a + n → f k ≡ h k) → flat_map f (range_with_len a n) ≡ flat_map h (range_with_len a n)
 made-same f h a zero same = refl
 made-same f h a (suc n) same = ap₂ (λ x y. x ++ y) (same a (omega arith) (omega arith)) (made-same f h (a + 1) n (λ k l b. same k (omega (arith, l)) (omega (arith, b))))
 

@@ -1,3 +1,4 @@
+pub mod BehaviourPayoffs
 pub mod CheckLaws
 pub mod LineChecks
 pub mod Lines
@@ -7,7 +8,6 @@ pub mod Texts
 pub mod TreeBoards
 pub mod TreeScratches
 pub mod TreeSides
-pub mod TreeStarts
 pub mod TreeSteps
 pub mod TreeVerdictLaws
 pub mod TreeVerdicts

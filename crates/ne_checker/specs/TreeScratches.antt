@@ -3,7 +3,7 @@ use Rattle.std.specs.Prelude.{ℕ, ◌≤◌, ◌≡◌, List, length, map, take
 use Rattle.game_theory.specs.Children.{AreChildren}
 use Rattle.game_core.specs.Tree.{GameTree}
 use Rattle.game_core.specs.TreeGame.{game_of_tree}
-use Rattle.ne_checker.specs.TreeStarts.{AreStarts}
+use Rattle.behaviour_profile.specs.EntryStarts.{AreStarts}
 use Rattle.ne_checker.specs.declared.scratch.Scratch.{Scratch}
 
 -- the room is for this tree

@@ -49,10 +49,6 @@ IsTreeVerdict t b Equilibrium reply = ((i : ℕ) → i < t.players → HasNoBett
 IsTreeVerdict t b (Better player payoff best) reply = IsBetter t b player payoff best reply
 IsTreeVerdict t b (Range step) reply = IsOutOfRange t b step × (reply ≡ [])
 
--- these are the entries of some behaviour
-abbrev pub AreBehaviourEntries : GameTree → List ℚ → Type 0
-AreBehaviourEntries tree entries = (b : Behaviour) × (entries ≡ tree_entries (game_of_tree tree) b)
-
 -- a verdict on behaviour with these entries, and the reply that comes with it
 abbrev pub tree_verdict : GameTree → List ℚ → TreeVerdict → List ℕ → Type 0
 tree_verdict tree entries verdict reply =

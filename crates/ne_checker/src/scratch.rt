@@ -1,13 +1,13 @@
 // Room for the check of a behaviour on a tree.
 ghost use Rattle.std.specs.Prelude.{◌≡◌, ◌+◌, ◌*◌, ◌<◌, ◌≤◌, length, IfOk};
 ghost use Rattle.game_core.specs.TreeGame.{game_of_tree};
-ghost use Rattle.ne_checker.specs.TreeStarts.{AreStarts, AreStartsTo};
 
 use crate::trees_board::Board;
 use crate::trees_player::{check_player, write_reply};
+use behaviour_profile::starts_of;
 use frac128::{Frac, Memory, Unfit};
 use game_core::Tree;
-use game_core::tree_parts::{action_count, is_own, stands_for_game_tree};
+use game_core::tree_parts::stands_for_game_tree;
 use pure_payoffs::children_of_all;
 use std::alloc::Global;
 
@@ -29,40 +29,6 @@ pub struct Scratch {
     reply: Vec<u32>,
     // How many sets the reply has.
     replied: usize,
-}
-
-// Writes the places of the first entries of a player's sets, where the first of all is this, and
-// tells the next. A player has at most 65,536 sets, of at most 65,535 actions each.
-fn write_starts(tree: &Tree, player: u32, starts: &mut [usize], first: usize) -> usize
-    requires starts { length starts.old ≡ length tree.now.sets }
-    requires player { player < length tree.now.players }
-    requires few { first ≤ 4294901760 * player }
-    ensures few { result ≤ 4294901760 * (player + 1) }
-    ensures starts { let t = game_of_tree tree.now in
-        AreStartsTo t player 0 starts.old first → AreStartsTo t (player + 1) 0 starts.new result }
-{
-    stands_for_game_tree(tree);
-    let mut next = first;
-    for set in 0..tree.sets().len() {
-        if is_own(tree, set, player) {
-            starts[set] = next;
-            next += action_count(tree, set);
-        }
-    }
-    next
-}
-
-// For each player's set the place of its first entry.
-fn starts_of(alloc: Global, tree: &Tree) -> Result<Vec<usize>, Memory>
-    ensures { IfOk result (λ starts. AreStarts (game_of_tree tree.now) starts.items) }
-{
-    stands_for_game_tree(tree);
-    let mut starts = vec![in alloc; 0; tree.sets().len()]?;
-    let mut next = 0;
-    for player in 0..tree.players().len() {
-        next = write_starts(tree, player as u32, starts.as_mut_slice(), next);
-    }
-    Ok(starts)
 }
 
 impl Scratch {
@@ -90,7 +56,7 @@ impl Scratch {
     ghost use Rattle.ne_checker.specs.TreeScratches.{IsScratchOf, choices_of, reply_of};
     ghost use Rattle.ne_checker.specs.TreeSides.{AreChosen};
     ghost use Rattle.ne_checker.specs.TreeSteps.{player_steps};
-    ghost use Rattle.ne_checker.specs.TreeVerdicts.{AreBehaviourEntries};
+    ghost use Rattle.behaviour_profile.specs.EntryStarts.{AreBehaviourEntries};
 
     /// Room for the check of a behaviour on this tree, with no reply.
     pub fn new(alloc: Global, tree: &Tree) -> Result<Scratch, Memory>

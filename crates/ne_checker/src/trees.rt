@@ -2,7 +2,8 @@
 ghost use Rattle.game_core.specs.TreeGame.{game_of_tree};
 ghost use Rattle.perfect_recall.specs.Found.{IsRecallOf};
 ghost use Rattle.ne_checker.specs.TreeScratches.{IsScratchOf, reply_of};
-ghost use Rattle.ne_checker.specs.TreeVerdicts.{AreBehaviourEntries, tree_verdict};
+ghost use Rattle.ne_checker.specs.TreeVerdicts.{tree_verdict};
+ghost use Rattle.behaviour_profile.specs.EntryStarts.{AreBehaviourEntries};
 ghost use Rattle.ne_checker.specs.TreeVerdictLaws.{
   TreeVerdictsAreSingle,
   TreeVerdictsFindEquilibria,

@@ -18,4 +18,5 @@ pub mod RationalRing
 pub mod Ring
 pub mod Rules
 pub mod SumLemmas
+pub mod SumRelationLemmas
 pub mod TestLemmas

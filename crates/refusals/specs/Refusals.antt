@@ -35,6 +35,7 @@ status_of (refusal.Forgets player set first_node second_node) = 1
 status_of (refusal.NotConstant first second first_sum second_sum) = 1
 status_of (refusal.TooLarge counted count limit) = 1
 status_of (refusal.Range place step) = 1
+status_of (refusal.SubgameRange node place step) = 1
 status_of (refusal.BadLine line) = 1
 status_of (refusal.NoSuchPlayer number) = 1
 status_of (refusal.SamePlayer number) = 1
@@ -119,6 +120,7 @@ site_text (site.Plan player) = codes "plan player " ++ decimal (player + 1)
 site_text (site.Behaviour player set) =
     codes "behaviour player " ++ decimal (player + 1) ++ codes " set " ++ decimal set
 site_text site.Value = codes "value"
+site_text (site.PlayerValue player) = codes "value of player " ++ decimal (player + 1)
 site_text (site.Shift player profile) =
     codes "shift player " ++ decimal (player + 1) ++ codes " profile " ++ decimal (profile + 1)
 site_text (site.PolytopeStart polytope row) =
@@ -155,6 +157,9 @@ refusal_text (refusal.TooLarge counted count limit) =
 refusal_text (refusal.Range place step) =
     codes "range in " ++ site_text place ++ codes ": " ++ op_text step.op
     ++ codes " " ++ number_text step.left ++ codes " " ++ number_text step.right
+refusal_text (refusal.SubgameRange node place step) =
+    codes "range in subgame " ++ decimal (node + 1) ++ codes " " ++ site_text place ++ codes ": "
+    ++ op_text step.op ++ codes " " ++ number_text step.left ++ codes " " ++ number_text step.right
 refusal_text (refusal.BadLine line) = codes "line " ++ decimal line ++ codes " is not a profile"
 refusal_text (refusal.NoSuchPlayer number) = codes "no player " ++ decimal number
 refusal_text (refusal.SamePlayer number) =

@@ -308,6 +308,7 @@ fn site_text(alloc: Global, site: &Site) -> Result<String, Memory>
             numbered_pair(alloc, "behaviour player ", from_one(*player), " set ", *set)
         }
         Site::Value => Ok(String::from_str(alloc, "value")?),
+        Site::PlayerValue { player } => numbered(alloc, "value of player ", from_one(*player)),
         Site::Shift { player, profile } => {
             numbered_pair(
                 alloc,
@@ -368,4 +369,17 @@ pub fn range_line(alloc: Global, site: &Site, unfit: Unfit) -> Result<String, Me
     let left = fraction_text(alloc, unfit.left)?;
     let right = fraction_text(alloc, unfit.right)?;
     Ok(format!(in alloc; "gambit: range in {site}: {op} {left} {right}\n")?)
+}
+
+/// The line of a step in a subgame that does not fit, with the node at which the subgame begins.
+pub fn subgame_line(alloc: Global, node: u32, site: &Site, unfit: Unfit) -> Result<String, Memory>
+    ensures { IfOk result (λ line.
+        string_bytes line ≡ refusal_line (refusal.SubgameRange node site.now unfit)) }
+{
+    let number = node as u64 + 1;
+    let site = site_text(alloc, site)?;
+    let op = op_text(unfit.op);
+    let left = fraction_text(alloc, unfit.left)?;
+    let right = fraction_text(alloc, unfit.right)?;
+    Ok(format!(in alloc; "gambit: range in subgame {number} {site}: {op} {left} {right}\n")?)
 }

@@ -1,7 +1,7 @@
 // Why a run is refused.
 use crate::lines::{
     absent_line, efg_line, forgets_line, limit_line, nfg_line, players_line, profile_line,
-    range_line, sums_line, text_line, twice_line,
+    range_line, subgame_line, sums_line, text_line, twice_line,
 };
 use answers::Memory;
 use basis_enum::Basis;
@@ -86,6 +86,11 @@ pub enum Site {
     },
     /// In the value of a game.
     Value,
+    /// In what a subgame is worth to a player.
+    PlayerValue {
+        /// The player.
+        player: u32,
+    },
     /// In the shift of a player's payoffs.
     Shift {
         /// The player.
@@ -187,6 +192,14 @@ pub enum Refusal {
         site: Site,
         unfit: Unfit,
     },
+    /// A step of the arithmetic in the subgame that begins at a node does not fit 128 bits. Nodes
+    /// count from 0; rows, columns and variables of the site are those of the cut at the node.
+    #[error("range in a subgame")]
+    SubgameRange {
+        node: u32,
+        site: Site,
+        unfit: Unfit,
+    },
     /// A line is not one of a profile of the game. Lines count from 1.
     #[error("no profile")]
     BadLine {
@@ -229,6 +242,7 @@ impl Refusal {
             | Refusal::NotConstant { .. }
             | Refusal::TooLarge { .. }
             | Refusal::Range { .. }
+            | Refusal::SubgameRange { .. }
             | Refusal::BadLine { .. }
             | Refusal::NoSuchPlayer { .. }
             | Refusal::SamePlayer { .. } => 1,
@@ -259,6 +273,7 @@ impl Refusal {
             | Refusal::NotConstant { .. }
             | Refusal::TooLarge { .. }
             | Refusal::Range { .. }
+            | Refusal::SubgameRange { .. }
             | Refusal::BadLine { .. }
             | Refusal::NoSuchPlayer { .. }
             | Refusal::SamePlayer { .. } => None,
@@ -296,6 +311,9 @@ impl Refusal {
                 limit_line(alloc, passed)
             }
             Refusal::Range { site, unfit } => range_line(alloc, site, *unfit),
+            Refusal::SubgameRange { node, site, unfit } => {
+                subgame_line(alloc, *node, site, *unfit)
+            }
             Refusal::BadLine { line } => profile_line(alloc, *line),
             Refusal::NoSuchPlayer { number } => absent_line(alloc, *number),
             Refusal::SamePlayer { number } => twice_line(alloc, *number),

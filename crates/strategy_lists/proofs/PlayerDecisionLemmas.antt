@@ -207,11 +207,6 @@ AreMade-own t n i numbers number s latest decisions d long inside below made at_
     ]
 
 -- ---- all players
--- what holds of no value holds of nothing alone
-pub none_alone : {X : Type 0} (P : Option X → Type 0) → ((x : X) → P (Some x) → ⊥) → (y : Option X) → P y → y ≡ None
-none_alone P other None h = refl
-none_alone P other (Some x) h = absurd (other x h)
-
 -- a fact of the number that an option holds, where each number that it may hold has it
 pub if_some : {X : Type 0} (P : X → Type 0) (o : Option X) → ((x : X) → o ≡ Some x → P x) → IfSome o P
 if_some P None h = tt

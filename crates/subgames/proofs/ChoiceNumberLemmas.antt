@@ -1,18 +1,13 @@
 -- What the choice with a number takes at the players' sets.
-use Rattle.std.proofs.Common.{ℕ, zero, suc, ◌+◌, ◌-◌, ◌<◌, ◌≤◌, ◌≡◌, ◌≢◌, ◌⊎◌, inl, inr, Some, List, [], ◌∷◌, length, map, drop, get_or, set, replicate, All, refl, sym, ap, ap₂, subst, ◌∙◌, arith, get_or-set_same, get_or-set_other}
-use Rattle.std.specs.List.{flat_map, range_with_len}
+use Rattle.std.proofs.Common.{ℕ, zero, suc, ◌-◌, ◌<◌, ◌≤◌, ◌≡◌, ◌≢◌, ◌⊎◌, inl, inr, Some, List, ◌∷◌, length, drop, get_or, set, replicate, refl, sym, ap, ap₂, subst, ◌∙◌, arith, get_or-set_same, get_or-set_other}
 use Rattle.std.specs.Prelude.{slice_index}
 use Rattle.std.proofs.Math.Path.{fun_ext}
 use Rattle.std.proofs.Math.Seq.{drop-cons}
 use Rattle.std.proofs.lemmas.Bool.{cases_eq}
 use Rattle.std.proofs.lemmas.List.{drop_all}
-use Rattle.std.proofs.lemmas.List.Elements.{All-append, All-filter, All-nil}
-use Rattle.std.proofs.lemmas.List.FromFn.{get_or-range_with_len, length-range_with_len}
-use Rattle.game_theory.specs.Behaviour.{is_index}
-use Rattle.game_theory.specs.OwnSets.{own_sets, player_sets}
-use Rattle.game_theory.specs.Profiles.{IsProfile, profile_at}
+use Rattle.game_theory.specs.OwnSets.{player_sets}
+use Rattle.game_theory.specs.Profiles.{profile_at}
 use Rattle.game_theory.specs.Trees.{Tree, IsTree}
-use Rattle.game_theory.proofs.OwnSetLemmas.{IsAmong, IsAmong-left, IsAmong-right, own_sets-has}
 use Rattle.game_theory.proofs.ProfileNumberLemmas.{IsProfile-profile_at}
 use Rattle.pure_payoffs.specs.Choices.{AreActions}
 use Rattle.reduced_strategies.specs.Choices.{choice_at}

@@ -1,6 +1,6 @@
 -- The members of a set, and the nodes at which subgames begin, as they are found one after another.
 use Rattle.std.proofs.Common.{ℕ, ◌+◌, ◌<◌, ◌≡◌, ◌⊎◌, inl, inr, Bool, true, false, not, Option, Some, None, List, [], ◌∷◌, ◌++◌, length, get_or, slice_get, refl, sym, ap, ◌∙◌, subst, arith}
-use Rattle.std.specs.Prelude.{◌↔◌, Contains, nat_eq}
+use Rattle.std.specs.Prelude.{◌↔◌, Contains, IsTrue, nat_eq}
 use Rattle.std.specs.List.Sorted.{IsStrictlyIncreasing}
 use Rattle.std.proofs.lemmas.Bool.{cases_eq, cases_lt, eqb-true, eq-eqb}
 use Rattle.std.proofs.lemmas.List.{get_or_append_left, get_or_push, length_push}
@@ -10,6 +10,8 @@ use Rattle.lists.proofs.ElementLemmas.{element}
 use Rattle.game_theory.specs.OwnSets.{numbers_with}
 use Rattle.game_theory.proofs.IndexLemmas.{numbers_with-at, numbers_with-tell, numbers_with-ascend}
 use Rattle.game_theory.specs.Trees.{Tree}
+use Rattle.subgames.specs.Splits.{IsMarked}
+use Rattle.subgames.specs.FoundSubgames.{AreRootMarks}
 use Rattle.subgames.specs.Roots.{BeginsAlone, HasWholeSets, IsSubgameRoot}
 
 -- ---- numbers with an index
@@ -108,3 +110,24 @@ begins_alone-of_player t k s members below here owned are = (
 pub root-unmarked : (t : Tree) (k : ℕ) (mark : Bool) → (k ≡ 0 → ⊥) → BeginsAlone t k → HasWholeSets t k ↔ (mark ≡ true → ⊥) → (not mark ≡ true) ↔ IsSubgameRoot t k
 root-unmarked t k true other alone whole = (λ e. cc, λ root. elim root [ inl first ↦ absurd (other first) | inr h ↦ absurd (whole.0 h.1 refl) ])
 root-unmarked t k false other alone whole = (λ e. inr (alone, whole.1 (λ e. cc)), λ root. refl)
+
+-- ---- marks where subgames begin
+-- for each node below n whether a subgame begins there
+pub record AreRootMarksBelow (t : Tree) (n : ℕ) (begins : List Bool) : Type 0 where
+  pub one_for_each : length begins ≡ n
+  pub are_all : (k : ℕ) → k < n → IsMarked begins k ↔ IsSubgameRoot t k
+
+-- one more node
+pub AreRootMarksBelow-push : (t : Tree) (n : ℕ) (begins : List Bool) (mark : Bool) → IsTrue mark ↔ IsSubgameRoot t n → AreRootMarksBelow t n begins → AreRootMarksBelow t (n + 1) (begins ++ mark ∷ [])
+AreRootMarksBelow-push t n begins mark told h = record {
+  one_for_each = length_push begins mark ∙ ap (λ m. m + 1) h.one_for_each;
+  are_all = λ k below. elim (cases_eq k n) [
+    | inl same ↦ subst (λ b. IsTrue b ↔ IsSubgameRoot t k) (sym (get_or_push begins mark false k (h.one_for_each ∙ sym same))) (subst (λ k. IsTrue mark ↔ IsSubgameRoot t k) (sym same) told)
+    | inr other ↦ let before : k < n = omega (arith, below, other) in
+        subst (λ b. IsTrue b ↔ IsSubgameRoot t k) (sym (get_or_append_left begins (mark ∷ []) false k (omega (arith, before, h.one_for_each)))) (h.are_all k before)
+  ];
+}
+
+-- all nodes at last
+pub AreRootMarksBelow-all : (t : Tree) (begins : List Bool) → AreRootMarksBelow t t.size begins → AreRootMarks t begins
+AreRootMarksBelow-all t begins h = record { one_for_each = h.one_for_each; are_all = h.are_all }

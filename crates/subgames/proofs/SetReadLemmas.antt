@@ -6,7 +6,7 @@ use Rattle.std.proofs.lemmas.Option.{slice_get_read}
 use Rattle.game_core.specs.Tree.{GameTree, InformationSet, IsGameTree, SetFits, members_of}
 use Rattle.game_core.specs.TreeGame.{game_of_tree}
 use Rattle.game_theory.specs.Trees.{Tree}
-use Rattle.subgames.proofs.CutLemmas.{IsMember}
+use Rattle.subgames.proofs.SplitLemmas.{IsMember}
 use Rattle.subgames.proofs.RootLemmas.{numbers_with-are}
 
 -- the set that stands at an index fits

@@ -1,10 +1,6 @@
 -- How many choices there are, and how many values they have.
-use Rattle.std.proofs.Common.{ℕ, zero, suc, ◌+◌, ◌*◌, ◌/◌, ◌<◌, ◌≤◌, ◌≡◌, List, [], ◌∷◌, length, map, get_or, All, inl, inr, ap, mul-pos, arith}
-use Rattle.std.specs.List.{flat_map, range_with_len}
-use Rattle.std.proofs.lemmas.Bool.{cases_eq}
-use Rattle.std.proofs.lemmas.List.Elements.{All-map}
+use Rattle.std.proofs.Common.{ℕ, zero, suc, ◌+◌, ◌*◌, ◌/◌, ◌<◌, ◌≤◌, ◌≡◌, List, [], ◌∷◌, length, get_or, All, mul-pos, arith}
 use Rattle.game_core.specs.Table.{most_payoffs}
-use Rattle.game_theory.specs.OwnSets.{own_sets, player_sets}
 use Rattle.game_theory.specs.Profiles.{profile_count}
 use Rattle.game_theory.specs.Trees.{Tree, IsTree}
 use Rattle.game_theory.proofs.ProfileCountLemmas.{profile_count-positive}

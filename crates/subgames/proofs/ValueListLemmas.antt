@@ -18,7 +18,7 @@ use Rattle.pure_payoffs.proofs.NodeListLemmas.{map-listed}
 use Rattle.rational.specs.Rational.{ℚ}
 use Rattle.subgames.specs.Choices.{numbered_choice, whole_choices}
 use Rattle.subgames.specs.Stops.{values_in}
-use Rattle.subgames.specs.ToldStops.{at_choice}
+use Rattle.subgames.specs.Told.{at_choice}
 use Rattle.subgames.specs.Values.{ValueIndex, indices_of, value_at, value_count, value_index, value_indices, value_steps}
 use Rattle.subgames.specs.declared.stop.ChoiceStop.{ChoiceStop}
 use Rattle.subgames.specs.declared.stop.ChoiceStop.TheVariants as stops

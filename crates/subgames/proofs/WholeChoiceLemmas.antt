@@ -1,5 +1,5 @@
 -- Choices of one action at each of the players' sets: their number, their profiles and their lines.
-use Rattle.std.proofs.Common.{ℕ, zero, suc, ◌+◌, ◌*◌, ◌<◌, ◌≤◌, ◌≡◌, List, All, length, map, get_or, refl, sym, ap, ◌∙◌, arith, mul-pos}
+use Rattle.std.proofs.Common.{ℕ, zero, suc, ◌*◌, ◌<◌, ◌≤◌, ◌≡◌, List, All, length, map, get_or, refl, sym, ap, ◌∙◌, arith, mul-pos}
 use Rattle.std.specs.List.{flat_map, range_with_len}
 use Rattle.std.proofs.lemmas.List.{length-map}
 use Rattle.std.proofs.lemmas.List.Elements.{All-map}

@@ -17,7 +17,7 @@ HasWholeSets t k =
     → IsWithin t k c → IsWithin t k d
 
 -- at node k a subgame begins: at the root, and at each other inner node that is chance's or alone in
--- its set and whose subtree cuts no player's set
+-- its set and whose subtree splits no player's set
 abbrev pub IsSubgameRoot : Tree → ℕ → Type 0
 IsSubgameRoot t k = (k ≡ 0) ⊎ (BeginsAlone t k × HasWholeSets t k)
 

@@ -1,16 +1,21 @@
 -- Equilibria at a node of a game tree, and those of the agent form. Source: Selten 1965, 1975.
 use Rattle.std.specs.Prelude.{ℕ, ◌<◌, ◌≡◌, ◌==◌, if◌then◌else◌, Bool, true, false, Some}
 use Rattle.rational.specs.Rational.{◌≤ℚ◌}
-use Rattle.game_theory.specs.Behaviour.{Behaviour, IsChoice, pure, reply, value}
+use Rattle.game_theory.specs.Behaviour.{Behaviour, IsChoice, IsValid, pure, reply, value}
 use Rattle.game_theory.specs.Mixed.{sure}
 use Rattle.game_theory.specs.Trees.{Tree}
-use Rattle.subgames.specs.Roots.{IsTestedAt}
+use Rattle.subgames.specs.Roots.{IsSubgameRoot, IsTestedAt}
 
 -- at node k no player has a pure reply after which that player's value of the node is greater
 abbrev pub IsEquilibriumAt : Tree → Behaviour → ℕ → Type 0
 IsEquilibriumAt t b k =
     (i : ℕ) (choice : ℕ → ℕ) → i < t.players → IsChoice t i choice
     → value t (reply t b i choice) i k ≤ℚ value t b i k
+
+-- valid behaviour that is an equilibrium at each node where a subgame begins, the root among them
+pub record IsSubgamePerfect (t : Tree) (b : Behaviour) : Type 0 where
+  pub valid : IsValid t b
+  pub equilibria : (n : ℕ) → n < t.size → IsSubgameRoot t n → IsEquilibriumAt t b n
 
 -- the behaviour with one action, and that surely, at set s alone
 abbrev pub agent_reply : Behaviour → ℕ → ℕ → Behaviour

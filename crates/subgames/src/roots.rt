@@ -1,7 +1,8 @@
 // The nodes at which subgames begin.
 ghost use Rattle.std.specs.Prelude.{◌≡◌, ◌<◌, ◌↔◌, All, Contains, IfOk, IsTrue, length, true};
 ghost use Rattle.game_core.specs.TreeGame.{game_of_tree};
-ghost use Rattle.subgames.specs.Cuts.{AddsMarks, AreCutMarks, CutsAmong, Separates};
+ghost use Rattle.subgames.specs.Splits.{AddsMarks, AreSplitMarks, SplitsAmong, Separates};
+ghost use Rattle.subgames.specs.FoundSubgames.{AreRootMarks};
 ghost use Rattle.subgames.specs.Roots.{AreTestNodes, BeginsAlone, IsSubgameRoot};
 
 use frac128::Memory;
@@ -10,53 +11,53 @@ use game_core::tree_parts::{owner, parent, set, stands_for_game_tree};
 use std::alloc::Global;
 
 // Marks the nodes whose subtree has exactly one of two nodes.
-fn mark_between(tree: &Tree, cut: &mut [bool], one: usize, other: usize)
+fn mark_between(tree: &Tree, split: &mut [bool], one: usize, other: usize)
     requires one { one < length tree.now.nodes }
     requires other { other < length tree.now.nodes }
-    requires reach { length cut.old ≡ length tree.now.nodes }
-    ensures { AddsMarks (λ k. Separates (game_of_tree tree.now) k one other) cut.old cut.new }
+    requires reach { length split.old ≡ length tree.now.nodes }
+    ensures { AddsMarks (λ k. Separates (game_of_tree tree.now) k one other) split.old split.new }
 {
     stands_for_game_tree(tree);
     let mut here = one;
     let mut there = other;
     while here != there {
         if here < there {
-            cut[there] = true;
+            split[there] = true;
             there = parent(tree, there);
         } else {
-            cut[here] = true;
+            split[here] = true;
             here = parent(tree, here);
         }
     }
 }
 
 // Marks the nodes whose subtree has some of these nodes and lacks others.
-fn mark_cuts(tree: &Tree, cut: &mut [bool], members: &[u32])
+fn mark_splits(tree: &Tree, split: &mut [bool], members: &[u32])
     requires some { 0 < length members.now }
     requires within { All (λ c. c < length tree.now.nodes) members.now }
-    requires reach { length cut.old ≡ length tree.now.nodes }
-    ensures { AddsMarks (λ k. CutsAmong (game_of_tree tree.now) k (Contains members.now))
-        cut.old cut.new }
+    requires reach { length split.old ≡ length tree.now.nodes }
+    ensures { AddsMarks (λ k. SplitsAmong (game_of_tree tree.now) k (Contains members.now))
+        split.old split.new }
 {
     stands_for_game_tree(tree);
     let first = members[0] as usize;
     for member in members {
-        mark_between(tree, cut, first, *member as usize);
+        mark_between(tree, split, first, *member as usize);
     }
 }
 
 // For each node whether its subtree has some of a player's set and lacks others.
-fn cut_marks(alloc: Global, tree: &Tree) -> Result<Vec<bool>, Memory>
-    ensures { IfOk result (λ cut. AreCutMarks (game_of_tree tree.now) cut.items) }
+fn split_marks(alloc: Global, tree: &Tree) -> Result<Vec<bool>, Memory>
+    ensures { IfOk result (λ split. AreSplitMarks (game_of_tree tree.now) split.items) }
 {
     stands_for_game_tree(tree);
-    let mut cut = vec![in alloc; false; tree.nodes().len()]?;
+    let mut split = vec![in alloc; false; tree.nodes().len()]?;
     for number in 0..tree.sets().len() {
         if owner(tree, number).is_some() {
-            mark_cuts(tree, cut.as_mut_slice(), tree.sets()[number].members());
+            mark_splits(tree, split.as_mut_slice(), tree.sets()[number].members());
         }
     }
-    Ok(cut)
+    Ok(split)
 }
 
 // Whether a node is one of chance, or alone in its set.
@@ -75,12 +76,25 @@ fn begins_alone(tree: &Tree, node: usize) -> bool
 }
 
 // Whether a subgame begins at a node.
-fn is_subgame_root(tree: &Tree, cut: &[bool], node: usize) -> bool
+fn is_subgame_root(tree: &Tree, split: &[bool], node: usize) -> bool
     requires node { node < length tree.now.nodes }
-    requires cut { AreCutMarks (game_of_tree tree.now) cut.now }
+    requires split { AreSplitMarks (game_of_tree tree.now) split.now }
     ensures { IsTrue result ↔ IsSubgameRoot (game_of_tree tree.now) node }
 {
-    node == 0 || (begins_alone(tree, node) && !cut[node])
+    node == 0 || (begins_alone(tree, node) && !split[node])
+}
+
+/// For each node whether a subgame begins there.
+pub(crate) fn root_marks(alloc: Global, tree: &Tree) -> Result<Vec<bool>, Memory>
+    ensures { IfOk result (λ begins. AreRootMarks (game_of_tree tree.now) begins.items) }
+{
+    stands_for_game_tree(tree);
+    let split = split_marks(alloc, tree)?;
+    let mut begins = Vec::with_capacity(alloc, tree.nodes().len())?;
+    for node in 0..tree.nodes().len() {
+        begins.push(is_subgame_root(tree, &split, node))?;
+    }
+    Ok(begins)
 }
 
 // The nodes at which subgames begin.
@@ -88,10 +102,10 @@ fn subgame_roots(alloc: Global, tree: &Tree) -> Result<Vec<u32>, Memory>
     ensures { IfOk result (λ roots. AreTestNodes true (game_of_tree tree.now) roots.items) }
 {
     stands_for_game_tree(tree);
-    let cut = cut_marks(alloc, tree)?;
+    let begins = root_marks(alloc, tree)?;
     let mut roots = Vec::new(alloc);
     for node in 0..tree.nodes().len() {
-        if is_subgame_root(tree, &cut, node) {
+        if begins[node] {
             roots.push(node as u32)?;
         }
     }

@@ -15,7 +15,7 @@ ghost use Rattle.reduced_strategies.specs.Choices.{choice_at};
 ghost use Rattle.game_theory.specs.OwnSets.{player_sets};
 ghost use Rattle.subgames.specs.Choices.{action_counts, whole_choices};
 ghost use Rattle.subgames.specs.Stops.{values_in};
-ghost use Rattle.subgames.specs.ToldStops.{at_choice};
+ghost use Rattle.subgames.specs.Told.{at_choice};
 ghost use Rattle.subgames.specs.Values.{choice_values, value_count};
 ghost use Rattle.subgames.specs.declared.stop.ChoiceStop.TheVariants as stops;
 

@@ -20,7 +20,7 @@ use Rattle.two_player_tools.proofs.FormSingleLemmas.{RecallsAreSingle, form_in-s
 use Rattle.two_player_tools.proofs.KeptPropertyLemmas.{TreesAreGames, form_in-valid}
 
 -- ---- the plans
-equilibrium_in-single : (f : FormData) → IsFormData f → IsSingle (equilibrium_in f)
+pub equilibrium_in-single : (f : FormData) → IsFormData f → IsSingle (equilibrium_in f)
 equilibrium_in-single f w =
     bind-single (refused_by problem_refusal (problem_in f)) (λ p. refused_by pivot_refusal (solved_in p) >>= λ s. only (plans_at s))
     (refused_by-single problem_refusal (problem_in f) (problems_single f))

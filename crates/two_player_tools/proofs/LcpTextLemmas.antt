@@ -29,10 +29,10 @@ use Rattle.lemke_pivot.specs.Parts.{IsProblem, IsProblemOfForm, Problem, plan_on
 use Rattle.lemke_pivot.proofs.FormProblemLemmas.{problems_of_forms}
 use Rattle.lemke_pivot.proofs.PathStartLemmas.{solves_the_form}
 use Rattle.two_player_tools.specs.GameTypes.{IsGame}
-use Rattle.two_player_tools.specs.Lcp.{plans_at}
+use Rattle.two_player_tools.specs.Lcp.{lcp, plans_at}
 use Rattle.two_player_tools.specs.Entries.{entries_in}
 use Rattle.two_player_tools.specs.EquilibriumEntries.{AreOfEquilibrium}
-use Rattle.two_player_tools.specs.LcpLaws.{LcpTextsAreEquilibria}
+use Rattle.two_player_tools.specs.LcpLaws.{IsEquilibriumText}
 use Rattle.two_player_tools.specs.TwoPlayers.{form_in}
 use Rattle.two_player_tools.proofs.KeptPropertyLemmas.{TreesAreGames, form_in-valid, two_who_recall}
 use Rattle.two_player_tools.proofs.LcpPlanLemmas.{HavePrices, have_prices}
@@ -86,10 +86,11 @@ module _ (f : FormData) (p s : Problem) (h : IsPivoting f p s) where
     two_has_all = length-listed (sequences (side_of s.second)) (plan_two s) ∙ sym second-count;
   }
 
-  equilibrium : (strategic : Bool) (game : Game) (list : List ℚ) → TreesAreGames → IsGame game → form_in problem_rows strategic game (Ok f) → entries_in strategic game (plans_at s).one (plans_at s).two (Ok list) → AreOfEquilibrium strategic game list
+  pub equilibrium : (strategic : Bool) (game : Game) (list : List ℚ) → TreesAreGames → IsGame game → form_in problem_rows strategic game (Ok f) → entries_in strategic game (plans_at s).one (plans_at s).two (Ok list) → AreOfEquilibrium strategic game list
   equilibrium strategic game list laws w k e = own_entries problem_rows f (plans_at s) h.valid weighted on_table (λ t before. on_tree t before laws) strategic game list w k e
 
-pub lcp_texts : TreesAreGames → LcpTextsAreEquilibria
+-- each text of `lcp` is the line of an equilibrium
+pub lcp_texts : TreesAreGames → (strategic : Bool) (game : Game) (text : List ℕ) → IsGame game → lcp strategic game (Ok text) → IsEquilibriumText strategic game text
 lcp_texts laws strategic game text w (_, _, (f, k, (plans, (p, problem, (s, solution, same)), (entries, are_entries, e)))) =
     let h : IsPivoting f p s = record { valid = form_in-valid problem_rows strategic game f laws w k; problem = problem; solution = solution } in
     let are : plans ≡ plans_at s = ok_same plans (plans_at s) same in

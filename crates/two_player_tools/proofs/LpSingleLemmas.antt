@@ -33,7 +33,7 @@ plans-single f p o h k =
     (refused_by-single plan_refusal (plans_of o) (plans_single o (optimum-first p o h k) (optimum-second p o h k)))
     (λ plans _. only-single (solution f o plans))
 
-solution_in-single : (f : FormData) → IsFormData f → IsSingle (solution_in f)
+pub solution_in-single : (f : FormData) → IsFormData f → IsSingle (solution_in f)
 solution_in-single f w =
     bind-single (refused_by program_refusal (program_in f)) (λ p. refused_by pivot_refusal (optimum_in p) >>= λ o. (refused_by plan_refusal (plans_of o) >>= λ plans. only (solution f o plans)))
     (refused_by-single program_refusal (program_in f) (programs_single f))

@@ -31,8 +31,8 @@ use Rattle.frac128.specs.Steps.{Step}
 use Rattle.two_player_tools.specs.Entries.{entries_in}
 use Rattle.two_player_tools.specs.EquilibriumEntries.{AreOfEquilibrium}
 use Rattle.two_player_tools.specs.GameTypes.{IsGame}
-use Rattle.two_player_tools.specs.Lp.{Solution, prices_in, prices_text, solution, solution_text}
-use Rattle.two_player_tools.specs.LpLaws.{HoldsOn, IsSolved, LpTextsAreSolutions, ProvesValue}
+use Rattle.two_player_tools.specs.Lp.{Solution, lp, prices_in, prices_text, solution, solution_text}
+use Rattle.two_player_tools.specs.LpLaws.{HoldsOn, IsSolved, ProvesValue}
 use Rattle.two_player_tools.specs.TwoPlayers.{form_in}
 use Rattle.two_player_tools.proofs.ConstantSumLemmas.{constant_of, sums_to, table_sums, tree_sums}
 use Rattle.two_player_tools.proofs.StrategicFormLemmas.{strategic_form-table}
@@ -86,7 +86,7 @@ module _ (f : FormData) (p o : Program) (plans : PlanPair) (h : IsSolving f p o 
     two_has_all = ap (λ (v : PlanPair). length v.two) are ∙ plan-long (IsCutPlan (side_of o.second) (second_raw o)) _ pair.two h.planned.2.1 (λ plan is. is.0) ∙ ap (λ (d : SideData). sequences (side_of d)) (second-same f p o plans h) ∙ sym h.valid.second_is.sequences_are;
   }
 
-  equilibrium : (strategic : Bool) (game : Game) (list : List ℚ) → TreesAreGames → IsGame game → form_in size_of_program strategic game (Ok f) → entries_in strategic game plans.one plans.two (Ok list) → AreOfEquilibrium strategic game list
+  pub equilibrium : (strategic : Bool) (game : Game) (list : List ℚ) → TreesAreGames → IsGame game → form_in size_of_program strategic game (Ok f) → entries_in strategic game plans.one plans.two (Ok list) → AreOfEquilibrium strategic game list
   equilibrium strategic game list laws w k e =
       own_entries size_of_program f plans h.valid weighted (λ t valid is. (on_table t valid is).equilibrium) (λ t before valid recall is. (on_tree t before laws valid recall is).equilibrium) strategic game list w k e
 
@@ -117,7 +117,8 @@ solved_text strategic prices game text f p o plans s laws w k h same (entries, a
   text_is = ok_same text (line_text entries ++ lines) e ∙ ap (λ v. line_text entries ++ v) (lines_are prices f s lines are_lines);
 }
 
-pub lp_texts : TreesAreGames → LpTextsAreSolutions
+-- each text of `lp` is that of a solution
+pub lp_texts : TreesAreGames → (strategic prices : Bool) (game : Game) (text : List ℕ) → IsGame game → lp strategic prices game (Ok text) → IsSolved strategic prices game text
 lp_texts laws strategic prices game text w (_, _, (f, k, (s, (p, program, (o, optimum, (plans, planned, same))), h))) =
     let valid : IsFormData f = form_in-valid size_of_program strategic game f laws w k in
     solved_text strategic prices game text f p o plans s laws w k (record { valid = valid; program = program; optimum = optimum; planned = planned }) (ok_same s (solution f o plans) same) h

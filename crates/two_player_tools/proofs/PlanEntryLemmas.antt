@@ -15,7 +15,6 @@ use Rattle.game_core.specs.declared.game.Game.TheVariants.{Strategic, Extensive}
 use Rattle.perfect_recall.specs.Found.{IsRecallOf}
 use Rattle.sequence_forms.specs.Forms.{mixed_of_plans, one_set}
 use Rattle.sequence_forms.specs.PlanBehaviour.{behaviour_of, of_two}
-use Rattle.sequence_forms.specs.Sides.{sequences}
 use Rattle.sequence_forms.proofs.AlikeFormLemmas.{counts}
 use Rattle.sequence_data.specs.Data.{FormData, IsFormData, side_of}
 use Rattle.sequence_form.specs.Forms.{table_form, tree_form}
@@ -69,7 +68,7 @@ module _ (t : GameTable) (f : FormData) (plans : PlanPair) (valid : IsTable t) (
       ∙ sym (ap (λ sizes. entries sizes (mixed_of_plans (weights_of plans))) (table_stands t f valid h).strategies_are)
 
 -- ---- on a tree
-tree_entries_are : (t : GameTree) (plans : PlanPair) (list : List ℚ) → refused_by behaviour_refusal (plan_behaviour t plans.one plans.two) (Ok list) → list ≡ tree_entries (game_of_tree t) (behaviour_of (game_of_tree t) (weights_of plans))
+pub tree_entries_are : (t : GameTree) (plans : PlanPair) (list : List ℚ) → refused_by behaviour_refusal (plan_behaviour t plans.one plans.two) (Ok list) → list ≡ tree_entries (game_of_tree t) (behaviour_of (game_of_tree t) (weights_of plans))
 tree_entries_are t plans list h = ok_same list (tree_entries (game_of_tree t) (behaviour_of (game_of_tree t) (weights_of plans))) h.2.2
 
 -- ---- on the file's own game

@@ -31,7 +31,7 @@ equilibrium_in f = do
   solution ← refused_by pivot_refusal (solved_in problem)
   only (plans_at solution)
 
--- the answer of `lcp`, with a tree's strategies or its behaviour
+-- the answer of `lcp` for the whole game, with a tree's strategies or its behaviour
 abbrev pub lcp : Bool → Game → Answer Refusal (List ℕ)
 lcp strategic game = do
   two_players game

@@ -1,18 +1,25 @@
 -- What each text of `lcp` is: the line of an equilibrium of the file's own game.
-use Rattle.std.specs.Prelude.{ℕ, ◌≡◌, Bool, List, Ok}
+use Rattle.std.specs.Prelude.{ℕ, ◌≡◌, Bool, true, List, Ok}
 use Rattle.rational.specs.Rational.{ℚ}
 use Rattle.game_theory.specs.Lines.{line_text}
 use Rattle.game_core.specs.declared.game.Game.{Game}
+use Rattle.game_core.specs.declared.game.Game.TheVariants.{Extensive}
 use Rattle.two_player_tools.specs.EquilibriumEntries.{AreOfEquilibrium}
 use Rattle.two_player_tools.specs.GameTypes.{IsGame}
-use Rattle.two_player_tools.specs.Lcp.{lcp}
+use Rattle.two_player_tools.specs.Perfect.{lcp_tool}
+use Rattle.two_player_tools.specs.PerfectTexts.{IsPerfectText}
 
 -- a text is the line of an equilibrium
 abbrev pub IsEquilibriumText : Bool → Game → List ℕ → Type 0
 IsEquilibriumText strategic game text =
     (list : List ℚ) × AreOfEquilibrium strategic game list × (text ≡ line_text list)
 
+-- so it is of each text; of a tree that is solved subgame by subgame the equilibrium is subgame-perfect
+abbrev pub IsLcpText : (strategic perfect : Bool) → Game → List ℕ → Type 0
+IsLcpText strategic true (Extensive t) text = IsPerfectText t text
+IsLcpText strategic _ game text = IsEquilibriumText strategic game text
+
 abbrev pub LcpTextsAreEquilibria : Type 0
 LcpTextsAreEquilibria =
-    (strategic : Bool) (game : Game) (text : List ℕ) → IsGame game → lcp strategic game (Ok text)
-    → IsEquilibriumText strategic game text
+    (strategic perfect : Bool) (game : Game) (text : List ℕ) → IsGame game
+    → lcp_tool strategic perfect game (Ok text) → IsLcpText strategic perfect game text

@@ -1,10 +1,13 @@
 pub mod Entries
 pub mod EquilibriumEntries
 pub mod GameTypes
+pub mod KnownCuts
 pub mod Lcp
 pub mod LcpLaws
 pub mod Lp
 pub mod LpLaws
+pub mod Perfect
+pub mod PerfectTexts
 pub mod PlanWeights
 pub mod Solved
 pub mod StrategicForms

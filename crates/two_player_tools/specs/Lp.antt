@@ -80,7 +80,8 @@ solution_text strategic prices game f s = do
   lines ← prices_in prices f s
   only (line_text entries ++ lines)
 
--- The answer of `lp`, with a tree's strategies or its behaviour, and with the prices where they are asked for.
+-- The answer of `lp` for the whole game, with a tree's strategies or its behaviour, and with the prices
+-- where they are asked for.
 abbrev pub lp : Bool → Bool → Game → Answer Refusal (List ℕ)
 lp strategic prices game = do
   two_players game

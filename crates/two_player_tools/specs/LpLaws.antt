@@ -1,5 +1,5 @@
 -- What each text of `lp` is: an equilibrium of the file's own game, with the prices that prove its value.
-use Rattle.std.specs.Prelude.{ℕ, suc, ◌≡◌, Bool, false, if◌then◌else◌, List, [], ◌++◌, length, Ok}
+use Rattle.std.specs.Prelude.{ℕ, suc, ◌≡◌, Bool, true, false, if◌then◌else◌, List, [], ◌++◌, length, Ok}
 use Rattle.rational.specs.Rational.{ℚ}
 use Rattle.game_theory.specs.Lines.{line_text, listed}
 use Rattle.game_core.specs.Table.{GameTable, game_of}
@@ -15,7 +15,9 @@ use Rattle.sequence_form.specs.Counts.{size_of_program}
 use Rattle.two_player_tools.specs.Entries.{entries_in}
 use Rattle.two_player_tools.specs.EquilibriumEntries.{AreOfEquilibrium}
 use Rattle.two_player_tools.specs.GameTypes.{IsGame}
-use Rattle.two_player_tools.specs.Lp.{Solution, lp, prices_text}
+use Rattle.two_player_tools.specs.Lp.{Solution, prices_text}
+use Rattle.two_player_tools.specs.Perfect.{lp_tool}
+use Rattle.two_player_tools.specs.PerfectTexts.{IsPerfectText}
 use Rattle.two_player_tools.specs.StrategicForms.{strategic_form}
 use Rattle.two_player_tools.specs.TwoPlayers.{form_in}
 
@@ -51,7 +53,13 @@ pub record IsSolved (strategic prices : Bool) (game : Game) (text : List ℕ) : 
   pub equilibrium : AreOfEquilibrium strategic game entries
   pub text_is : text ≡ line_text entries ++ (if prices then prices_text form solution else [])
 
+-- so it is of each text; that of a tree that is solved subgame by subgame is the line of an equilibrium
+-- that is subgame-perfect
+abbrev pub IsLpText : (strategic prices perfect : Bool) → Game → List ℕ → Type 0
+IsLpText strategic prices true (Extensive t) text = IsPerfectText t text
+IsLpText strategic prices _ game text = IsSolved strategic prices game text
+
 abbrev pub LpTextsAreSolutions : Type 0
 LpTextsAreSolutions =
-    (strategic prices : Bool) (game : Game) (text : List ℕ) → IsGame game
-    → lp strategic prices game (Ok text) → IsSolved strategic prices game text
+    (strategic prices perfect : Bool) (game : Game) (text : List ℕ) → IsGame game
+    → lp_tool strategic prices perfect game (Ok text) → IsLpText strategic prices perfect game text

@@ -1,6 +1,6 @@
 // What the tools for two players need of a game.
-ghost use Rattle.std.specs.Prelude.{◌≡◌, length};
-ghost use Rattle.answers.specs.Answers.{Gives, refused_by};
+ghost use Rattle.std.specs.Prelude.{◌≡◌, ◌≢◌, length};
+ghost use Rattle.answers.specs.Answers.{Gives, refuse_where, refused_by};
 ghost use Rattle.game_core.specs.Limits.{most_rows, within};
 ghost use Rattle.refusals.specs.Told.{limit_refusal};
 ghost use Rattle.sequence_form.specs.Counts.{AreFew};
@@ -32,16 +32,22 @@ fn player_count(game: &Game) -> u32
     }
 }
 
-/// Refuses a game that does not have two players. Takes no memory.
-pub fn two_players(game: &Game) -> Result<(), Refusal>
-    ensures { two_players game.now result }
+/// Refuses so many players where they are not two. Takes no memory.
+pub(crate) fn two_players_of(count: u32) -> Result<(), Refusal>
+    ensures { refuse_where (count ≢ 2) (Refusal.NotTwoPlayers count) result }
 {
-    let count = player_count(game);
     if count == 2 {
         Ok(())
     } else {
         Err(Refusal::NotTwoPlayers { count })
     }
+}
+
+/// Refuses a game that does not have two players. Takes no memory.
+pub fn two_players(game: &Game) -> Result<(), Refusal>
+    ensures { two_players game.now result }
+{
+    two_players_of(player_count(game))
 }
 
 // How many rows a form of these sizes has: of its linear program with the columns, or of its
@@ -72,8 +78,8 @@ fn form_of_table(alloc: Global, method: Method, table: &Table) -> Result<SeqForm
     Ok(build_table(alloc, table)?)
 }
 
-// The sequence form of a tree, where the rows that the method counts are within the limit.
-fn form_of_tree(alloc: Global, method: Method, tree: &Tree) -> Result<SeqForm, Refusal>
+/// The sequence form of a tree, where the rows that the method counts are within the limit.
+pub(crate) fn form_of_tree(alloc: Global, method: Method, tree: &Tree) -> Result<SeqForm, Refusal>
     requires { length tree.now.players ≡ 2 }
     ensures { Gives Refusal.Memory (form_of_tree (rows_by method) tree.now) result }
 {

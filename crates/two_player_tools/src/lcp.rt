@@ -2,16 +2,19 @@
 ghost use Rattle.answers.specs.Answers.{Gives, map_ok};
 ghost use Rattle.two_player_tools.specs.Lcp.{lcp};
 ghost use Rattle.two_player_tools.specs.LcpLaws.{LcpTextsAreEquilibria};
+ghost use Rattle.two_player_tools.specs.Perfect.{lcp_tool};
 
 use crate::entries::plans_line;
 use crate::forms::{Method, form_in, two_players};
+use crate::perfect::perfect_text;
 use crate::pivoting::equilibrium_in;
 use game_core::{Game, sets_are_numbered_by_first_nodes, trees_are_game_trees};
 use refusals::Refusal;
 use std::alloc::Global;
+use subgames::sets_stand_in_one_cut;
 
-/// The text of `lcp`: the line of an equilibrium of a game.
-pub fn lcp_text(alloc: Global, strategic: bool, game: &Game) -> Result<Vec<u8>, Refusal>
+// The line of an equilibrium of a game.
+fn equilibrium_text(alloc: Global, strategic: bool, game: &Game) -> Result<Vec<u8>, Refusal>
     ensures { Gives Refusal.Memory (lcp strategic game.now) (map_ok result (λ text. text.items)) }
 {
     two_players(game)?;
@@ -20,10 +23,29 @@ pub fn lcp_text(alloc: Global, strategic: bool, game: &Game) -> Result<Vec<u8>, 
     plans_line(alloc, strategic, game, &form, &plans.one, &plans.two)
 }
 
-/// Each text of `lcp` is the line of an equilibrium of the game.
+/// The text of `lcp`: the line of an equilibrium of a game; of a tree, where `perfect` is set, one that
+/// is found subgame by subgame.
+pub fn lcp_text(
+    alloc: Global,
+    strategic: bool,
+    perfect: bool,
+    game: &Game,
+) -> Result<Vec<u8>, Refusal>
+    ensures { Gives Refusal.Memory (lcp_tool strategic perfect game.now)
+        (map_ok result (λ text. text.items)) }
+{
+    match game {
+        Game::Extensive(tree) if perfect => perfect_text(alloc, Method::Complementarity, tree),
+        _ => equilibrium_text(alloc, strategic, game),
+    }
+}
+
+/// Each text of `lcp` is the line of an equilibrium of the game, which is subgame-perfect where a
+/// tree is solved subgame by subgame.
 pub fn lcp_texts_are_equilibria()
     ensures { LcpTextsAreEquilibria }
 {
     trees_are_game_trees();
     sets_are_numbered_by_first_nodes();
+    sets_stand_in_one_cut();
 }

@@ -7,8 +7,9 @@
 //! as `strategic_forms_are_single` of the strategic form.
 //! Definitions: `specs::StrategicForms` has the strategic form that all tools take; `TwoPlayers` says
 //! which sequence form a tool works on, `Lp` and `Lcp` what each answers, `Entries` the line of two
-//! plans; `LpLaws` and `LcpLaws` what holds of each text.
-//! Private words: `specs::Solved` and `PlanWeights`, for code between stages.
+//! plans, `Perfect` what they answer of a tree that is solved subgame by subgame; `LpLaws`, `LcpLaws`
+//! and `PerfectTexts` what holds of each text.
+//! Private words: `specs::Solved`, `PlanWeights` and `KnownCuts`, for code between stages.
 //! Lemmas for callers: `proofs::FormSingleLemmas`, `LpSingleLemmas`, `LcpSingleLemmas`.
 //! A change here touches: `gambit_tools`, docs/THEOREM.md.
 #![tactic(auto)]
@@ -17,17 +18,18 @@ ghost use Rattle.std.specs.Prelude.{Bool};
 ghost use Rattle.answers.specs.Answers.{IsSingle};
 ghost use Rattle.game_core.specs.declared.game.Game.{Game};
 ghost use Rattle.two_player_tools.specs.GameTypes.{IsGame};
-ghost use Rattle.two_player_tools.specs.Lcp.{lcp};
-ghost use Rattle.two_player_tools.specs.Lp.{lp};
+ghost use Rattle.two_player_tools.specs.Perfect.{lcp_tool, lp_tool};
 ghost use Rattle.two_player_tools.specs.StrategicForms.{strategic_form};
 
 use game_core::{sets_are_numbered_by_first_nodes, trees_are_game_trees};
 use perfect_recall::recalls_are_single;
+use subgames::sets_stand_in_one_cut;
 
 mod entries;
 mod forms;
 mod lcp;
 mod lp;
+mod perfect;
 mod pivoting;
 mod prices;
 mod solving;
@@ -43,11 +45,13 @@ pub fn strategic_forms_are_single()
 
 /// A game has at most one answer by each tool.
 pub fn solutions_are_single()
-    ensures lp { (strategic prices : Bool) (game : Game) → IsGame game
-        → IsSingle (lp strategic prices game) }
-    ensures lcp { (strategic : Bool) (game : Game) → IsGame game → IsSingle (lcp strategic game) }
+    ensures lp { (strategic prices perfect : Bool) (game : Game) → IsGame game
+        → IsSingle (lp_tool strategic prices perfect game) }
+    ensures lcp { (strategic perfect : Bool) (game : Game) → IsGame game
+        → IsSingle (lcp_tool strategic perfect game) }
 {
     trees_are_game_trees();
     sets_are_numbered_by_first_nodes();
     recalls_are_single();
+    sets_stand_in_one_cut();
 }

@@ -3,17 +3,20 @@ ghost use Rattle.answers.specs.Answers.{Gives, map_ok};
 ghost use Rattle.two_player_tools.specs.Entries.{plans_line};
 ghost use Rattle.two_player_tools.specs.Lp.{lp, solution_text};
 ghost use Rattle.two_player_tools.specs.LpLaws.{LpTextsAreSolutions};
+ghost use Rattle.two_player_tools.specs.Perfect.{lp_tool};
 ghost use Rattle.two_player_tools.specs.Solved.{HasSizesOf, solution_of};
 ghost use Rattle.two_player_tools.specs.TwoPlayers.{HasForm};
 
 use crate::entries::plans_line;
 use crate::forms::{Method, form_in, two_players};
+use crate::perfect::perfect_text;
 use crate::prices::price_lines;
 use crate::solving::{Solved, solve};
 use game_core::{Game, sets_are_numbered_by_first_nodes, trees_are_game_trees};
 use refusals::Refusal;
 use sequence_form::SeqForm;
 use std::alloc::Global;
+use subgames::sets_stand_in_one_cut;
 
 // The line of a solution.
 fn solution_line(
@@ -54,9 +57,8 @@ fn solution_text(
     Ok(text)
 }
 
-/// The text of `lp`: the line of an equilibrium of a game, with its value and prices where they are
-/// asked for.
-pub fn lp_text(
+// The line of an equilibrium of a game, with its value and prices where they are asked for.
+fn equilibrium_text(
     alloc: Global,
     strategic: bool,
     prices: bool,
@@ -71,11 +73,31 @@ pub fn lp_text(
     solution_text(alloc, strategic, prices, game, &form, &solved)
 }
 
+/// The text of `lp`: the line of an equilibrium of a game, with its value and prices where they are
+/// asked for; of a tree, where `perfect` is set, the line of one that is found subgame by subgame.
+pub fn lp_text(
+    alloc: Global,
+    strategic: bool,
+    prices: bool,
+    perfect: bool,
+    game: &Game,
+) -> Result<Vec<u8>, Refusal>
+    ensures { Gives Refusal.Memory (lp_tool strategic prices perfect game.now)
+        (map_ok result (λ text. text.items)) }
+{
+    match game {
+        Game::Extensive(tree) if perfect => perfect_text(alloc, Method::LinearProgram, tree),
+        _ => equilibrium_text(alloc, strategic, prices, game),
+    }
+}
+
 /// Each text of `lp` is that of an equilibrium of the game, whose value the plans and prices of the
-/// same solution prove. The prices are printed where they are asked for.
+/// same solution prove; the prices are printed where they are asked for. Where a tree is solved
+/// subgame by subgame it is the line of an equilibrium that is subgame-perfect.
 pub fn lp_texts_are_solutions()
     ensures { LpTextsAreSolutions }
 {
     trees_are_game_trees();
     sets_are_numbered_by_first_nodes();
+    sets_stand_in_one_cut();
 }

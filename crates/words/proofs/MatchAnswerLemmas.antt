@@ -1,5 +1,5 @@
 -- What the matches of a tool's command come to.
-use Rattle.std.proofs.Common.{◌≡◌, ◌∙◌, refl, sym, subst, true≢false, ℕ, Bool, true, false, ◌==◌, if◌then◌else◌, List, [], ◌∷◌, Option, Some, None, codes, eqb→eq, inl, inr, ◌⊎◌}
+use Rattle.std.proofs.Common.{◌≡◌, ◌∙◌, refl, sym, subst, true≢false, ℕ, Bool, true, false, ◌==◌, ◌&&◌, if◌then◌else◌, List, [], ◌∷◌, Option, Some, None, codes, eqb→eq, inl, inr, ◌⊎◌}
 use Rattle.std.specs.Prelude.{option_and_then, option_map}
 use Rattle.std.specs.Str.{bytes_eq}
 use Rattle.std.proofs.lemmas.Slice.Eq.{bytes_eq-Decides}
@@ -52,6 +52,11 @@ none_after : {X Y : Type 0} (f : X → Option Y) (o : Option X) → ((x : X) →
 none_after f None e = refl
 none_after f (Some x) e = e x
 
+-- nothing, whatever a test says
+either_none : {X : Type 0} (b : Bool) (o : Option X) → o ≡ None → (if b then None else o) ≡ None
+either_none true o e = refl
+either_none false o e = e
+
 -- ---- the tools
 
 no_value : (o : Options) (settings : List Part → Option Command) → o.valued ≡ [] → (ps : List Part) → GivesHyphen o ps → settings ps ≡ None
@@ -75,20 +80,20 @@ enummixed_told words m all workers plain tells d j w = told_answer enummixed_opt
 
 lcp_refuses : (ps : List Part) → GivesHyphen lcp_options ps → lcp_of ps ≡ None
 lcp_refuses ps h = let at_e : has_hyphen (values_of 101 ps) ≡ true = subst (λ x. has_hyphen (values_of x ps) ≡ true) (sym (only 101 h.0 h.1)) h.2 in
-    hyphen_alone (λ e. if is_one_or_none e then option_map (Lcp (has_flag 83 ps)) (at_most_one (plain_of ps)) else None)
-    (values_of 101 ps) at_e refl
+    either_none (has_flag 83 ps && has_flag 80 ps) _ (hyphen_alone (λ e. if is_one_or_none e then option_map (Lcp (has_flag 83 ps) (has_flag 80 ps)) (at_most_one (plain_of ps)) else None)
+    (values_of 101 ps) at_e refl)
 
-pub lcp_told : (words : List Text) (m : ArgMatches) (strategic : Bool) (equilibria plain : List Text) → SaysParts lcp_options (word_parts lcp_options words None) m
-    → strategic ≡ is_counted (flag_id 83) (rows_of (found_of m)) → equilibria ≡ texts_at (value_id 101) (rows_of (found_of m))
-    → plain ≡ texts_at (codes "words") (rows_of (found_of m)) → lcp_settings strategic equilibria plain ≡ answer lcp_options lcp_of words
-lcp_told words m strategic equilibria plain tells s e w = told_answer lcp_options lcp_of words m tells lcp_refuses (lcp_settings strategic equilibria plain)
-    (λ ps says i. lcp_settings ((s ∙ says.flags 83) i) ((e ∙ says.values 101) i) ((w ∙ says.plain) i))
+pub lcp_told : (words : List Text) (m : ArgMatches) (strategic perfect : Bool) (equilibria plain : List Text) → SaysParts lcp_options (word_parts lcp_options words None) m
+    → strategic ≡ is_counted (flag_id 83) (rows_of (found_of m)) → perfect ≡ is_counted (flag_id 80) (rows_of (found_of m)) → equilibria ≡ texts_at (value_id 101) (rows_of (found_of m))
+    → plain ≡ texts_at (codes "words") (rows_of (found_of m)) → lcp_settings strategic perfect equilibria plain ≡ answer lcp_options lcp_of words
+lcp_told words m strategic perfect equilibria plain tells s p e w = told_answer lcp_options lcp_of words m tells lcp_refuses (lcp_settings strategic perfect equilibria plain)
+    (λ ps says i. lcp_settings ((s ∙ says.flags 83) i) ((p ∙ says.flags 80) i) ((e ∙ says.values 101) i) ((w ∙ says.plain) i))
 
-pub lp_told : (words : List Text) (m : ArgMatches) (strategic prices : Bool) (plain : List Text) → SaysParts lp_options (word_parts lp_options words None) m
-    → strategic ≡ is_counted (flag_id 83) (rows_of (found_of m)) → prices ≡ is_counted (codes "prices") (rows_of (found_of m))
-    → plain ≡ texts_at (codes "words") (rows_of (found_of m)) → lp_settings strategic prices plain ≡ answer lp_options lp_of words
-lp_told words m strategic prices plain tells s r w = told_answer lp_options lp_of words m tells (no_value lp_options lp_of refl) (lp_settings strategic prices plain)
-    (λ ps says i. lp_settings ((s ∙ says.flags 83) i) ((r ∙ says.prices) i) ((w ∙ says.plain) i))
+pub lp_told : (words : List Text) (m : ArgMatches) (strategic prices perfect : Bool) (plain : List Text) → SaysParts lp_options (word_parts lp_options words None) m
+    → strategic ≡ is_counted (flag_id 83) (rows_of (found_of m)) → prices ≡ is_counted (codes "prices") (rows_of (found_of m)) → perfect ≡ is_counted (flag_id 80) (rows_of (found_of m))
+    → plain ≡ texts_at (codes "words") (rows_of (found_of m)) → lp_settings strategic prices perfect plain ≡ answer lp_options lp_of words
+lp_told words m strategic prices perfect plain tells s r p w = told_answer lp_options lp_of words m tells (no_value lp_options lp_of refl) (lp_settings strategic prices perfect plain)
+    (λ ps says i. lp_settings ((s ∙ says.flags 83) i) ((r ∙ says.prices) i) ((p ∙ says.flags 80) i) ((w ∙ says.plain) i))
 
 convert_refuses : (ps : List Part) → GivesHyphen convert_options ps → convert_of ps ≡ None
 convert_refuses ps h = first (first_or_rest 79 (codes "rc") h.0 h.1)

@@ -11,8 +11,8 @@ use Rattle.words.specs.declared.Usage.{Usage}
 abbrev pub tool_name : Command → List ℕ
 tool_name (Enumpure strategic agents perfect file) = codes "enumpure"
 tool_name (Enummixed all workers file) = codes "enummixed"
-tool_name (Lcp strategic file) = codes "lcp"
-tool_name (Lp strategic prices file) = codes "lp"
+tool_name (Lcp strategic perfect file) = codes "lcp"
+tool_name (Lp strategic prices perfect file) = codes "lp"
 tool_name (Convert html row column file) = codes "convert"
 tool_name (Check strategic game lines) = codes "check"
 tool_name (Make number rows columns workers) = codes "make"
@@ -44,11 +44,13 @@ enummixed_named words = then_named _ enummixed_of (λ ps. then_named _ (λ n. op
     (λ n. map_named _ (Enummixed (has_flag 68 ps) n) (λ file. refl) (at_most_one (plain_of ps))) (workers_from (values_of 106 ps))) (word_parts enummixed_options words None)
 
 lcp_named : (words : List (List ℕ)) → Named (codes "lcp") (answer lcp_options lcp_of words)
-lcp_named words = then_named _ lcp_of (λ ps. then_named _ (λ e. if is_one_or_none e then option_map (Lcp (has_flag 83 ps)) (at_most_one (plain_of ps)) else None)
-    (λ e. if_named _ (is_one_or_none e) _ None (map_named _ (Lcp (has_flag 83 ps)) (λ file. refl) (at_most_one (plain_of ps))) tt) (at_most_one (values_of 101 ps))) (word_parts lcp_options words None)
+lcp_named words = then_named _ lcp_of (λ ps. if_named _ (has_flag 83 ps && has_flag 80 ps) None _ tt
+    (then_named _ (λ e. if is_one_or_none e then option_map (Lcp (has_flag 83 ps) (has_flag 80 ps)) (at_most_one (plain_of ps)) else None)
+    (λ e. if_named _ (is_one_or_none e) _ None (map_named _ (Lcp (has_flag 83 ps) (has_flag 80 ps)) (λ file. refl) (at_most_one (plain_of ps))) tt) (at_most_one (values_of 101 ps)))) (word_parts lcp_options words None)
 
 lp_named : (words : List (List ℕ)) → Named (codes "lp") (answer lp_options lp_of words)
-lp_named words = then_named _ lp_of (λ ps. map_named _ (Lp (has_flag 83 ps) (has_prices ps)) (λ file. refl) (at_most_one (plain_of ps))) (word_parts lp_options words None)
+lp_named words = then_named _ lp_of (λ ps. if_named _ (has_flag 80 ps && (has_flag 83 ps || has_prices ps)) None _ tt
+    (map_named _ (Lp (has_flag 83 ps) (has_prices ps) (has_flag 80 ps)) (λ file. refl) (at_most_one (plain_of ps)))) (word_parts lp_options words None)
 
 convert_named : (words : List (List ℕ)) → Named (codes "convert") (answer convert_options convert_of words)
 convert_named words = then_named _ convert_of (λ ps. then_named _ _ (λ html. then_named _ _ (λ row. then_named _ _ (λ column.

@@ -13,12 +13,13 @@ use Rattle.words.specs.Grammar.{Options, Part, has_flag, has_prices, word_parts,
 
 -- A tool and how it works; a file that is None is standard input. Where `all` is true, `enummixed` looks
 -- through all strategies, and else without the strictly dominated ones. Where `agents` or `perfect` is
--- true, `enumpure` lists the choices that are equilibria of the agent form, or in every subgame.
+-- true, `enumpure` lists the choices that are equilibria of the agent form, or in every subgame; where
+-- `perfect` is true, `lcp` and `lp` find behaviour that is an equilibrium in every subgame.
 pub data Command : Type 0 where
   Enumpure : (strategic agents perfect : Bool) → (file : Option (List ℕ)) → Command
   Enummixed : (all : Bool) → (workers : ℕ) → (file : Option (List ℕ)) → Command
-  Lcp : (strategic : Bool) → (file : Option (List ℕ)) → Command
-  Lp : (strategic prices : Bool) → (file : Option (List ℕ)) → Command
+  Lcp : (strategic perfect : Bool) → (file : Option (List ℕ)) → Command
+  Lp : (strategic prices perfect : Bool) → (file : Option (List ℕ)) → Command
   Convert : (html : Bool) → (row column : ℕ) → (file : Option (List ℕ)) → Command
   Check : (strategic : Bool) → (game : List ℕ) → (lines : Option (List ℕ)) → Command
   Make : (number rows columns workers : ℕ) → Command
@@ -94,23 +95,36 @@ abbrev pub enummixed_of : List Part → Option Command
 enummixed_of parts = enummixed_settings (has_flag (letter "D") parts) (values_of (letter "j") parts) (plain_of parts)
 
 abbrev pub lcp_options : Options
-lcp_options = record { flags = codes "qS"; valued = codes "e"; prices = false }
+lcp_options = record { flags = codes "qSP"; valued = codes "e"; prices = false }
 
-abbrev pub lcp_settings : (strategic : Bool) → (equilibria plain : List (List ℕ)) → Option Command
-lcp_settings strategic equilibria plain =
-    option_and_then (λ e. if is_one_or_none e then option_map (Lcp strategic) (at_most_one plain) else None) (at_most_one equilibria)
+-- strategies are not asked for beside subgames
+abbrev pub lcp_settings : (strategic perfect : Bool) → (equilibria plain : List (List ℕ))
+    → Option Command
+lcp_settings strategic perfect equilibria plain =
+    if strategic && perfect then None
+    else option_and_then
+    (λ e. if is_one_or_none e then option_map (Lcp strategic perfect) (at_most_one plain) else None)
+    (at_most_one equilibria)
 
 abbrev pub lcp_of : List Part → Option Command
-lcp_of parts = lcp_settings (has_flag (letter "S") parts) (values_of (letter "e") parts) (plain_of parts)
+lcp_of parts =
+    lcp_settings (has_flag (letter "S") parts) (has_flag (letter "P") parts)
+    (values_of (letter "e") parts) (plain_of parts)
 
 abbrev pub lp_options : Options
-lp_options = record { flags = codes "qS"; valued = []; prices = true }
+lp_options = record { flags = codes "qSP"; valued = []; prices = true }
 
-abbrev pub lp_settings : (strategic prices : Bool) → (plain : List (List ℕ)) → Option Command
-lp_settings strategic prices plain = option_map (Lp strategic prices) (at_most_one plain)
+-- neither strategies nor prices are asked for beside subgames
+abbrev pub lp_settings : (strategic prices perfect : Bool) → (plain : List (List ℕ))
+    → Option Command
+lp_settings strategic prices perfect plain =
+    if perfect && (strategic || prices) then None
+    else option_map (Lp strategic prices perfect) (at_most_one plain)
 
 abbrev pub lp_of : List Part → Option Command
-lp_of parts = lp_settings (has_flag (letter "S") parts) (has_prices parts) (plain_of parts)
+lp_of parts =
+    lp_settings (has_flag (letter "S") parts) (has_prices parts) (has_flag (letter "P") parts)
+    (plain_of parts)
 
 abbrev pub convert_options : Options
 convert_options = record { flags = codes "q"; valued = codes "Orc"; prices = false }
@@ -186,8 +200,10 @@ abbrev pub command_of : Settings → Command
 command_of (settings.Enumpure strategic agents perfect file) =
     Enumpure strategic agents perfect (option_map string_bytes file)
 command_of (settings.Enummixed all workers file) = Enummixed all workers (option_map string_bytes file)
-command_of (settings.Lcp strategic file) = Lcp strategic (option_map string_bytes file)
-command_of (settings.Lp strategic prices file) = Lp strategic prices (option_map string_bytes file)
+command_of (settings.Lcp strategic perfect file) =
+    Lcp strategic perfect (option_map string_bytes file)
+command_of (settings.Lp strategic prices perfect file) =
+    Lp strategic prices perfect (option_map string_bytes file)
 command_of (settings.Convert html row column file) = Convert html row column (option_map string_bytes file)
 command_of (settings.Check strategic game lines) = Check strategic (string_bytes game) (option_map string_bytes lines)
 command_of (settings.Make number rows columns workers) = Make number rows columns workers

@@ -105,7 +105,8 @@ pub(crate) fn lcp_command<'a>(alloc: Global) -> Result<Command<'a>, AllocError>
     ensures { IfOk result (λ c. app_of c ≡ app_with lcp_options) }
 {
     let strategic = strategic_command(alloc)?;
-    with_value(alloc, strategic, "-e", 'e')
+    let perfect = with_flag(alloc, strategic, "P", 'P')?;
+    with_value(alloc, perfect, "-e", 'e')
 }
 
 /// The command of `lp`.
@@ -113,7 +114,8 @@ pub(crate) fn lp_command<'a>(alloc: Global) -> Result<Command<'a>, AllocError>
     ensures { IfOk result (λ c. app_of c ≡ app_with lp_options) }
 {
     let strategic = strategic_command(alloc)?;
-    with_prices(alloc, strategic)
+    let perfect = with_flag(alloc, strategic, "P", 'P')?;
+    with_prices(alloc, perfect)
 }
 
 /// The command of `convert`.

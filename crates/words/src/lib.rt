@@ -40,16 +40,18 @@ pub enum Settings {
         file: Option<String>,
     },
     /// Print an equilibrium of a game of two players by complementary pivoting: of a tree by reduced strategies where
-    /// `strategic` is set, and else as behaviour.
+    /// `strategic` is set, and else as behaviour, that is one in every subgame where `perfect` is set.
     Lcp {
         strategic: bool,
+        perfect: bool,
         file: Option<String>,
     },
-    /// Print an equilibrium of a constant-sum game of two players by linear programming, `strategic` as for `Lcp`; and
-    /// the prices where `prices` is set.
+    /// Print an equilibrium of a constant-sum game of two players by linear programming, `strategic` and `perfect` as
+    /// for `Lcp`; and the prices where `prices` is set.
     Lp {
         strategic: bool,
         prices: bool,
+        perfect: bool,
         file: Option<String>,
     },
     /// Print the strategic form, as HTML where `html` is set, and else as LaTeX for `sgame`. `row` and `column` are the

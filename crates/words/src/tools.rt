@@ -86,19 +86,27 @@ pub(crate) fn read_enummixed(alloc: Global, words: &[String]) -> Result<Settings
 fn lcp(
     alloc: Global,
     strategic: bool,
+    perfect: bool,
     equilibria: Option<&[&str]>,
     plain: Option<&[&str]>,
 ) -> Result<Settings, SettingsStop>
-    ensures { IsAnswer (lcp_settings strategic
+    ensures { IsAnswer (lcp_settings strategic perfect
         (collected equilibria.entry)
         (collected plain.entry)) result }
 {
+    if strategic && perfect {
+        return Err(SettingsStop::Usage(Usage::Words));
+    }
     let equilibria = at_most_one(equilibria)?;
     if !is_one_or_none(equilibria) {
         return Err(SettingsStop::Usage(Usage::Words));
     }
     let file = file_from(alloc, plain)?;
-    Ok(Settings::Lcp { strategic, file })
+    Ok(Settings::Lcp {
+        strategic,
+        perfect,
+        file,
+    })
 }
 
 /// Reads the words after `lcp`.
@@ -108,9 +116,10 @@ pub(crate) fn read_lcp(alloc: Global, words: &[String]) -> Result<Settings, Sett
     let command = commands::lcp_command(alloc)?;
     let matches = read_words(command, words)?;
     let strategic = is_given(&matches, "S");
+    let perfect = is_given(&matches, "P");
     let equilibria = given(&matches, "-e");
     let plain = given(&matches, "words");
-    lcp(alloc, strategic, equilibria, plain)
+    lcp(alloc, strategic, perfect, equilibria, plain)
 }
 
 // The settings of `lp`, by what its words give.
@@ -118,14 +127,19 @@ fn lp(
     alloc: Global,
     strategic: bool,
     prices: bool,
+    perfect: bool,
     plain: Option<&[&str]>,
 ) -> Result<Settings, SettingsStop>
-    ensures { IsAnswer (lp_settings strategic prices (collected plain.entry)) result }
+    ensures { IsAnswer (lp_settings strategic prices perfect (collected plain.entry)) result }
 {
+    if perfect && (strategic || prices) {
+        return Err(SettingsStop::Usage(Usage::Words));
+    }
     let file = file_from(alloc, plain)?;
     Ok(Settings::Lp {
         strategic,
         prices,
+        perfect,
         file,
     })
 }
@@ -138,8 +152,9 @@ pub(crate) fn read_lp(alloc: Global, words: &[String]) -> Result<Settings, Setti
     let matches = read_words(command, words)?;
     let strategic = is_given(&matches, "S");
     let prices = is_given(&matches, "prices");
+    let perfect = is_given(&matches, "P");
     let plain = given(&matches, "words");
-    lp(alloc, strategic, prices, plain)
+    lp(alloc, strategic, prices, perfect, plain)
 }
 
 // The settings of `convert`, by what its words give.

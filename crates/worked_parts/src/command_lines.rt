@@ -16,13 +16,13 @@ enummixed -c | Words
 enummixed -j 65 | Words
 convert | Words
 lcp -e 2 | Words
-lcp -qS -e=1 -- game | Lcp { strategic: true, file: Some("game") }
+lcp -qS -e=1 -- game | Lcp { strategic: true, perfect: false, file: Some("game") }
 lcp -e 1 -e 1 game | Words
 enumpure a b | Words
 lp --price | Words
 enumpure -S -P game | Words
 lp -P --prices game | Words
-lp --prices game | Lp { strategic: false, prices: true, file: Some("game") }
+lp --prices game | Lp { strategic: false, prices: true, perfect: false, file: Some("game") }
 check -S game | Check { strategic: true, game: "game", lines: None }
 make 1 2 2 | Make { number: 1, rows: 2, columns: 2, workers: 1 }
 enummixed -D -j 2 | Enummixed { all: true, workers: 2, file: None }
@@ -70,7 +70,7 @@ enumpure help | Enumpure { strategic: false, agents: false, perfect: false, file
 -q enumpure | UnknownTool
  | UnknownTool
 Enumpure | UnknownTool
-lp enumpure | Lp { strategic: false, prices: false, file: Some("enumpure") }
+lp enumpure | Lp { strategic: false, prices: false, perfect: false, file: Some("enumpure") }
 check | Words
 check a | Check { strategic: false, game: "a", lines: None }
 check a b | Check { strategic: false, game: "a", lines: Some("b") }
@@ -104,22 +104,22 @@ convert x -c4294967295 -r=1 -O html | Convert { html: true, row: 1, column: 4294
 convert -Ohtml -c 4294967296 | Words
 convert -Ohtml -r 0 | Words
 convert -Ohtml -r | Words
-lcp -e1 | Lcp { strategic: false, file: None }
+lcp -e1 | Lcp { strategic: false, perfect: false, file: None }
 lcp -e 01 | Words
 lcp -e= | Words
-lcp -e=1 -S | Lcp { strategic: true, file: None }
+lcp -e=1 -S | Lcp { strategic: true, perfect: false, file: None }
 lcp -PS | Words
-lcp -P -e 1 game | Words
+lcp -P -e 1 game | Lcp { strategic: false, perfect: true, file: Some("game") }
 lcp -eS | Words
 lcp -e 1 -- -e 1 | Words
-lp --prices --prices | Lp { strategic: false, prices: true, file: None }
+lp --prices --prices | Lp { strategic: false, prices: true, perfect: false, file: None }
 lp --prices= | Words
 lp --prices=1 | Words
 lp --pricesx | Words
-lp -S --prices | Lp { strategic: true, prices: true, file: None }
+lp -S --prices | Lp { strategic: true, prices: true, perfect: false, file: None }
 lp -PS | Words
-lp -P | Words
-lp -- --prices | Lp { strategic: false, prices: false, file: Some("--prices") }
+lp -Pq | Lp { strategic: false, prices: false, perfect: true, file: None }
+lp -- --prices | Lp { strategic: false, prices: false, perfect: false, file: Some("--prices") }
 lp -prices | Words"#;
 
 // Numbers of workers, rows and columns.

@@ -28,8 +28,8 @@ pub returns : goal.returns
 returns c = record {
   enumpure = λ strategic agents perfect file bytes text h. (h.0, h.1, pure_said strategic agents perfect h.0 text h.2);
   enummixed = λ all workers file bytes text h. (h.0, h.1, c.enummixed_texts_are_extreme.ensures all h.0 text h.2);
-  lcp = λ strategic file bytes text h. (h.0, h.1, c.lcp_texts_are_equilibria.ensures strategic h.0 text (game_in-valid bytes h.0 h.1) h.2);
-  lp = λ strategic prices file bytes text h. (h.0, h.1, c.lp_texts_are_solutions.ensures strategic prices h.0 text (game_in-valid bytes h.0 h.1) h.2);
+  lcp = λ strategic perfect file bytes text h. (h.0, h.1, c.lcp_texts_are_equilibria.ensures strategic perfect h.0 text (game_in-valid bytes h.0 h.1) h.2);
+  lp = λ strategic prices perfect file bytes text h. (h.0, h.1, c.lp_texts_are_solutions.ensures strategic prices perfect h.0 text (game_in-valid bytes h.0 h.1) h.2);
   check = λ strategic name file bytes lines text h.
       (let read = h.2.2 in
       (read.0, read.1, verdicts-tell c.table_checks_tell_equilibria.ensures c.tree_checks_tell_equilibria.ensures strategic read.0 lines text (game_in-valid bytes read.0 read.1) read.2));

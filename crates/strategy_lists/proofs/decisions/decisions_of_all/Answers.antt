@@ -1,9 +1,10 @@
 use Rattle.std.proofs.Common.{◌≡◌, ◌<◌, ◌∙◌, ℕ, None, [], length, map, get_or, ap, subst, arith, add-one}
 use Rattle.std.proofs.lemmas.List.{length-map, length-replicate}
 use Rattle.std.proofs.lemmas.List.Elements.{All-map}
+use Rattle.lists.proofs.OptionLemmas.{none_alone}
 use Rattle.lists.proofs.ElementLemmas.{get_or-copies}
 use Rattle.game_core.specs.TreeGame.{game_of_tree}
-use Rattle.strategy_lists.proofs.PlayerDecisionLemmas.{AreMadeByAll, AreMadeByAll-none, AreMadeByAll-nobody, AreMadeByAll-player, AreDecisionsOfAll-made, none_alone, player-inside, latest-within, before-few}
+use Rattle.strategy_lists.proofs.PlayerDecisionLemmas.{AreMadeByAll, AreMadeByAll-none, AreMadeByAll-nobody, AreMadeByAll-player, AreDecisionsOfAll-made, player-inside, latest-within, before-few}
 use Rattle.strategy_lists.proofs.decisions.decisions_of_all.Goals as goal
 use Rattle.strategy_lists.proofs.decisions.decisions_of_all.Goals.{in-Some+in_ok-number, in_default}
 

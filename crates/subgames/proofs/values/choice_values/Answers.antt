@@ -8,10 +8,9 @@ use Rattle.game_core.specs.Table.{most_payoffs}
 use Rattle.game_core.specs.TreeGame.{game_of_tree}
 use Rattle.game_theory.specs.Profiles.{profile_at}
 use Rattle.pure_payoffs.specs.Stops.{all_values_in, node_values}
-use Rattle.game_theory.specs.OwnSets.{player_sets}
 use Rattle.subgames.specs.Choices.{action_counts, numbered_choice, whole_choices}
 use Rattle.subgames.specs.Stops.{values_in}
-use Rattle.subgames.specs.ToldStops.{at_choice}
+use Rattle.subgames.specs.Told.{at_choice}
 use Rattle.subgames.specs.Values.{value_at, value_count, value_steps}
 use Rattle.subgames.specs.declared.stop.ChoiceStop.{ChoiceStop}
 use Rattle.subgames.specs.declared.stop.ChoiceStop.TheVariants as stops

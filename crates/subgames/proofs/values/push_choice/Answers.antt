@@ -4,7 +4,7 @@ use Rattle.pure_payoffs.specs.Plays.{choice_of, game_of}
 use Rattle.pure_payoffs.specs.Stops.{all_values_in}
 use Rattle.pure_payoffs.specs.declared.stop.ValueStop.{ValueStop}
 use Rattle.pure_payoffs.specs.declared.stop.ValueStop.TheVariants as value_stops
-use Rattle.subgames.specs.ToldStops.{at_choice}
+use Rattle.subgames.specs.Told.{at_choice}
 use Rattle.subgames.specs.declared.stop.ChoiceStop.{ChoiceStop}
 use Rattle.subgames.specs.declared.stop.ChoiceStop.TheVariants as stops
 use Rattle.subgames.proofs.values.push_choice.Goals as goal

@@ -1,34 +1,18 @@
-use Rattle.std.proofs.Common.{subst₂}
-use Rattle.answers.specs.Answers.{Gives, map_ok, ◌>>=◌}
-use Rattle.answers.proofs.AnswerLemmas.{gives_bind_as, gives_exit}
-use Rattle.sequence_form.specs.Counts.{problem_rows}
-use Rattle.zero_sum_lp.specs.PlanPairs.{PlanPair}
-use Rattle.two_player_tools.specs.Entries.{plans_line}
-use Rattle.two_player_tools.specs.Lcp.{equilibrium_in}
-use Rattle.two_player_tools.specs.PlanWeights.{pair_of}
-use Rattle.two_player_tools.specs.TwoPlayers.{form_in, two_players}
+use Rattle.std.proofs.Common.{inl, inr, Bool, List, ℕ}
+use Rattle.answers.specs.Answers.{Gives, map_ok}
+use Rattle.game_core.specs.declared.game.Game.{Game}
 use Rattle.refusals.specs.declared.refusal.Refusal.TheVariants as refusal
+use Rattle.two_player_tools.specs.Perfect.{lcp_tool}
+use Rattle.two_player_tools.proofs.ToolLemmas.{whole-game}
 use Rattle.two_player_tools.proofs.lcp.lcp_text.Goals as goal
+use Rattle.two_player_tools.proofs.lcp.lcp_text.Goals.{in_default-via-in-Extensive+else-perfect, in_default-via-in_default}
 
-pub returns-in_err-plans : goal.returns-in_err-plans
-returns-in_err-plans c =
-    let strategic = c.args.strategic in
-    let game = c.args.game.now in
-    let f = c.in_ok-form.form in
-    let r = c.from_residual-in_err-plans.result in
-    let line = λ (plans : PlanPair). plans_line strategic game plans.one plans.two in
-    gives_bind_as refusal.Memory (two_players game) (λ _. form_in problem_rows strategic game >>= λ f. (equilibrium_in f >>= line)) c.in_ok-two_players.field-0 r (λ text. text.items) c.in_ok-two_players.ensures
-    (gives_bind_as refusal.Memory (form_in problem_rows strategic game) (λ f. equilibrium_in f >>= line) f r (λ text. text.items) c.in_ok-form.ensures
-    (gives_exit refusal.Memory (equilibrium_in f) line c.in_err-plans.field-0.0 r (λ text. text.items) c.in_err-plans.ensures.answer c.from_residual-in_err-plans.ensures.1))
-
-pub returns : goal.returns
-returns c =
-    let strategic = c.args.strategic in
-    let game = c.args.game.now in
-    let f = c.in_ok-form.form in
-    let r = c.plans_line.result in
-    let line = λ (plans : PlanPair). plans_line strategic game plans.one plans.two in
-    gives_bind_as refusal.Memory (two_players game) (λ _. form_in problem_rows strategic game >>= λ f. (equilibrium_in f >>= line)) c.in_ok-two_players.field-0 r (λ text. text.items) c.in_ok-two_players.ensures
-    (gives_bind_as refusal.Memory (form_in problem_rows strategic game) (λ f. equilibrium_in f >>= line) f r (λ text. text.items) c.in_ok-form.ensures
-    (gives_bind_as refusal.Memory (equilibrium_in f) line (pair_of c.in_ok-plans.plans) r (λ text. text.items) c.in_ok-plans.ensures.answer
-    (subst₂ (λ a b. Gives refusal.Memory (plans_line strategic game a b) (map_ok r (λ text. text.items))) c.deref.ensures.value c.deref-2.ensures.value c.plans_line.ensures)))
+pub returns-in_default : goal.returns-in_default
+returns-in_default c =
+    let r = c.equilibrium_text.result in
+    whole-game (λ (perfect : Bool) (game : Game). Gives refusal.Memory (lcp_tool c.args.strategic perfect game) (map_ok {Y = List ℕ} r (λ text. text.items))) c.args.perfect c.args.game.now
+    (elim c.in_default.branch [
+      | in_default-via-in-Extensive+else-perfect w ↦ inl w.if-perfect.false
+      | in_default-via-in_default w ↦ inr w.in_default.not-Extensive
+    ])
+    c.equilibrium_text.ensures (λ t g. g)

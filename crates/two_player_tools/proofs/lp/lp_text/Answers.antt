@@ -1,28 +1,18 @@
-use Rattle.answers.specs.Answers.{◌>>=◌}
-use Rattle.answers.proofs.AnswerLemmas.{gives_bind_as, gives_exit}
-use Rattle.sequence_form.specs.Counts.{size_of_program}
-use Rattle.two_player_tools.specs.Lp.{solution_in, solution_text}
-use Rattle.two_player_tools.specs.Solved.{solution_of}
-use Rattle.two_player_tools.specs.TwoPlayers.{form_in, two_players}
+use Rattle.std.proofs.Common.{inl, inr, Bool, List, ℕ}
+use Rattle.answers.specs.Answers.{Gives, map_ok}
+use Rattle.game_core.specs.declared.game.Game.{Game}
 use Rattle.refusals.specs.declared.refusal.Refusal.TheVariants as refusal
+use Rattle.two_player_tools.specs.Perfect.{lp_tool}
+use Rattle.two_player_tools.proofs.ToolLemmas.{whole-game}
 use Rattle.two_player_tools.proofs.lp.lp_text.Goals as goal
+use Rattle.two_player_tools.proofs.lp.lp_text.Goals.{in_default-via-in-Extensive+else-perfect, in_default-via-in_default}
 
-pub returns-in_err-solved : goal.returns-in_err-solved
-returns-in_err-solved c =
-    let strategic = c.args.strategic in
-    let game = c.args.game.now in
-    let f = c.in_ok-form.form in
-    let r = c.from_residual-in_err-solved.result in
-    gives_bind_as refusal.Memory (two_players game) (λ _. form_in size_of_program strategic game >>= λ f. (solution_in f >>= λ s. solution_text strategic c.args.prices game f s)) c.in_ok-two_players.field-0 r (λ text. text.items) c.in_ok-two_players.ensures
-    (gives_bind_as refusal.Memory (form_in size_of_program strategic game) (λ f. solution_in f >>= λ s. solution_text strategic c.args.prices game f s) f r (λ text. text.items) c.in_ok-form.ensures
-    (gives_exit refusal.Memory (solution_in f) (λ s. solution_text strategic c.args.prices game f s) c.in_err-solved.field-0.0 r (λ text. text.items) c.in_err-solved.ensures.answer c.from_residual-in_err-solved.ensures.1))
-
-pub returns : goal.returns
-returns c =
-    let strategic = c.args.strategic in
-    let game = c.args.game.now in
-    let f = c.in_ok-form.form in
-    let r = c.solution_text.result in
-    gives_bind_as refusal.Memory (two_players game) (λ _. form_in size_of_program strategic game >>= λ f. (solution_in f >>= λ s. solution_text strategic c.args.prices game f s)) c.in_ok-two_players.field-0 r (λ text. text.items) c.in_ok-two_players.ensures
-    (gives_bind_as refusal.Memory (form_in size_of_program strategic game) (λ f. solution_in f >>= λ s. solution_text strategic c.args.prices game f s) f r (λ text. text.items) c.in_ok-form.ensures
-    (gives_bind_as refusal.Memory (solution_in f) (λ s. solution_text strategic c.args.prices game f s) (solution_of f c.in_ok-solved.solved) r (λ text. text.items) c.in_ok-solved.ensures.answer c.solution_text.ensures))
+pub returns-in_default : goal.returns-in_default
+returns-in_default c =
+    let r = c.equilibrium_text.result in
+    whole-game (λ (perfect : Bool) (game : Game). Gives refusal.Memory (lp_tool c.args.strategic c.args.prices perfect game) (map_ok {Y = List ℕ} r (λ text. text.items))) c.args.perfect c.args.game.now
+    (elim c.in_default.branch [
+      | in_default-via-in-Extensive+else-perfect w ↦ inl w.if-perfect.false
+      | in_default-via-in_default w ↦ inr w.in_default.not-Extensive
+    ])
+    c.equilibrium_text.ensures (λ t g. g)

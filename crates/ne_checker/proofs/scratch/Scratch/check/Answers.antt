@@ -8,8 +8,8 @@ use Rattle.ne_checker.specs.TreeSides.{AreChosen}
 use Rattle.ne_checker.specs.TreeSteps.{player_steps}
 use Rattle.game_core.specs.TreeGame.{game_of_tree}
 use Rattle.game_theory.specs.Children.{AreChildren}
-use Rattle.ne_checker.specs.TreeStarts.{AreStarts}
-use Rattle.ne_checker.proofs.TreeStartStepLemmas.{starts-within, starts-read}
+use Rattle.behaviour_profile.specs.EntryStarts.{AreStarts}
+use Rattle.behaviour_profile.proofs.EntryStartLemmas.{starts-within, starts-read}
 use Rattle.ne_checker.proofs.scratch.Scratch.check.Goals as goal
 
 pub check_player-requires-clause-board : goal.check_player-requires-clause-board

@@ -1,0 +1,70 @@
+-- Each player's set that a node has stands in one cut.
+use Rattle.std.proofs.Common.{ℕ, zero, suc, ◌<◌, ◌≡◌, ◌⊎◌, inl, inr, refl, sym, ◌∙◌, subst, arith}
+use Rattle.std.proofs.lemmas.Bool.{cases_eq}
+use Rattle.game_theory.specs.OwnSets.{Chooses}
+use Rattle.game_theory.specs.Trees.{Tree, IsAbove, IsTree, IsWithin}
+use Rattle.reduced_strategies.proofs.HistoryLemmas.{along_paths}
+use Rattle.subgames.specs.CutGames.{IsGivenEnd, IsInCut}
+use Rattle.subgames.specs.CutLaws.{SetsStandInOneCut}
+use Rattle.subgames.specs.Roots.{IsSubgameRoot}
+use Rattle.subgames.proofs.CutWalkLemmas.{cut-after, cut-down, cut-root}
+
+-- ---- in some cut
+-- node k stands in the cut at node n, and is no given end there
+abbrev pub IsInnerNode : Tree → ℕ → ℕ → Type 0
+IsInnerNode t n k = IsInCut t n k × (IsGivenEnd t n k → ⊥)
+
+module _ (t : Tree) (w : IsTree t) where
+  -- a node where a subgame begins does so in its own cut
+  pub inner-root : (n : ℕ) → n < t.size → IsInnerNode t n n
+  inner-root n below = (cut-root t w n below, λ end. end.1 refl)
+
+  -- each node does so in the cut at some node where a subgame begins
+  pub inner-somewhere : (k : ℕ) → k < t.size → ¬ ((n : ℕ) → n < t.size → IsSubgameRoot t n → ¬ IsInnerNode t n k)
+  inner-somewhere = along_paths t (λ k. ¬ ((n : ℕ) → n < t.size → IsSubgameRoot t n → ¬ IsInnerNode t n k)) w
+      (λ none. none 0 w.some_node (inl refl) (inner-root 0 w.some_node))
+      (λ k later below up none. up (λ n inside root inner.
+      let before = w.after_parent k later below in
+      let after = cut-after t w n (t.parent k) inner.0 in
+      none n inside root (cut-down t w n k below (omega (arith, before, after)) inner.0 inner.1, λ end. none k below end.0 (inner-root k below))))
+
+-- ---- in no other
+-- of two nodes above one node one is above the other
+pub above-ordered : (t : Tree) (a b n m k : ℕ) → IsAbove t a n k → IsAbove t b m k → IsWithin t n m ⊎ IsWithin t m n
+above-ordered t zero b n m k same h = inr (subst (IsWithin t m) (sym same) (b, h))
+above-ordered t (suc a) zero n m k h same = inl (subst (IsWithin t n) (sym same) (suc a, h))
+above-ordered t (suc a) (suc b) n m k h g = above-ordered t a b n m (t.parent k) h.1 g.1
+
+module _ (t : Tree) (w : IsTree t) where
+  -- the subtree of the root has all nodes
+  pub within-root : (k : ℕ) → k < t.size → IsWithin t 0 k
+  within-root = along_paths t (IsWithin t 0) w (0, refl) (λ k later below up. (suc up.0, (later, up.1)))
+
+  -- where a subgame begins, the players' sets are whole
+  pub root-whole : (n c d i s : ℕ) → IsSubgameRoot t n → c < t.size → d < t.size → Chooses t c i s → Chooses t d i s → IsWithin t n c → IsWithin t n d
+  root-whole n c d i s (inl first) inside_c inside_d at_c at_d h = subst (λ n. IsWithin t n d) (sym first) (within-root d inside_d)
+  root-whole n c d i s (inr root) inside_c inside_d at_c at_d h = root.1 c d i s inside_c inside_d at_c at_d h
+
+-- above a node of a cut that is no given end no other subgame begins below the cut's root
+pub inner-once : (t : Tree) (n m k : ℕ) → IsSubgameRoot t m → IsInnerNode t n k → IsWithin t n m → IsWithin t m k → m ≡ n
+inner-once t n m k root inner from to = elim (inner.0.2 m root from to) [
+  | inl same ↦ same
+  | inr own ↦ elim (cases_eq m n) [ inl same ↦ same | inr other ↦ absurd (inner.1 (subst (IsSubgameRoot t) own root, λ e. other (own ∙ e))) ]
+]
+
+-- so each player's set stands in one cut
+pub sets_stand_in_one_cut : SetsStandInOneCut
+sets_stand_in_one_cut = record {
+  some = λ t k s w below at none. inner-somewhere t w k below (λ n inside root inner. none n inside root (k, inner.0, inner.1, at));
+  one = λ t n m s i w root_n root_m own here there.
+      let c = here.0 in
+      let d = there.0 in
+      let at_c : Chooses t c i s = record { at_set = here.3; own = own } in
+      let at_d : Chooses t d i s = record { at_set = there.3; own = own } in
+      let n_above = root-whole t w n c d i s root_n here.1.0 there.1.0 at_c at_d here.1.1 in
+      let m_above = root-whole t w m d c i s root_m there.1.0 here.1.0 at_d at_c there.1.1 in
+      elim (above-ordered t n_above.0 there.1.1.0 n m d n_above.1 there.1.1.1) [
+        | inl from ↦ sym (inner-once t n m c root_m (here.1, here.2) from m_above)
+        | inr from ↦ inner-once t m n d root_n (there.1, there.2) from n_above
+      ];
+}

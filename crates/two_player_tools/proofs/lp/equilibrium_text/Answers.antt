@@ -1,0 +1,28 @@
+use Rattle.answers.specs.Answers.{◌>>=◌}
+use Rattle.answers.proofs.AnswerLemmas.{gives_bind_as, gives_exit}
+use Rattle.sequence_form.specs.Counts.{size_of_program}
+use Rattle.two_player_tools.specs.Lp.{solution_in, solution_text}
+use Rattle.two_player_tools.specs.Solved.{solution_of}
+use Rattle.two_player_tools.specs.TwoPlayers.{form_in, two_players}
+use Rattle.refusals.specs.declared.refusal.Refusal.TheVariants as refusal
+use Rattle.two_player_tools.proofs.lp.equilibrium_text.Goals as goal
+
+pub returns-in_err-solved : goal.returns-in_err-solved
+returns-in_err-solved c =
+    let strategic = c.args.strategic in
+    let game = c.args.game.now in
+    let f = c.in_ok-form.form in
+    let r = c.from_residual-in_err-solved.result in
+    gives_bind_as refusal.Memory (two_players game) (λ _. form_in size_of_program strategic game >>= λ f. (solution_in f >>= λ s. solution_text strategic c.args.prices game f s)) c.in_ok-two_players.field-0 r (λ text. text.items) c.in_ok-two_players.ensures
+    (gives_bind_as refusal.Memory (form_in size_of_program strategic game) (λ f. solution_in f >>= λ s. solution_text strategic c.args.prices game f s) f r (λ text. text.items) c.in_ok-form.ensures
+    (gives_exit refusal.Memory (solution_in f) (λ s. solution_text strategic c.args.prices game f s) c.in_err-solved.field-0.0 r (λ text. text.items) c.in_err-solved.ensures.answer c.from_residual-in_err-solved.ensures.1))
+
+pub returns : goal.returns
+returns c =
+    let strategic = c.args.strategic in
+    let game = c.args.game.now in
+    let f = c.in_ok-form.form in
+    let r = c.solution_text.result in
+    gives_bind_as refusal.Memory (two_players game) (λ _. form_in size_of_program strategic game >>= λ f. (solution_in f >>= λ s. solution_text strategic c.args.prices game f s)) c.in_ok-two_players.field-0 r (λ text. text.items) c.in_ok-two_players.ensures
+    (gives_bind_as refusal.Memory (form_in size_of_program strategic game) (λ f. solution_in f >>= λ s. solution_text strategic c.args.prices game f s) f r (λ text. text.items) c.in_ok-form.ensures
+    (gives_bind_as refusal.Memory (solution_in f) (λ s. solution_text strategic c.args.prices game f s) (solution_of f c.in_ok-solved.solved) r (λ text. text.items) c.in_ok-solved.ensures.answer c.solution_text.ensures))

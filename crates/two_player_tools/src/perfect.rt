@@ -1,0 +1,300 @@
+// Behaviour that is found subgame by subgame, from the last to the first.
+ghost use Rattle.std.specs.Prelude.{
+  ◌≡◌,
+  ◌≢◌,
+  ◌<◌,
+  ◌≤◌,
+  ◌+◌,
+  ◌*◌,
+  ◌⊎◌,
+  ℕ,
+  [],
+  All,
+  IfErr,
+  IfOk,
+  OnOk,
+  length,
+  map,
+  slice_index,
+  slice_index_or,
+};
+ghost use Rattle.answers.specs.Answers.{Gives, map_ok, refused_by};
+ghost use Rattle.rational.specs.Sum.{entry_at};
+ghost use Rattle.behaviour_profile.specs.EntryStarts.{AreBehaviourEntries};
+ghost use Rattle.game_core.specs.TreeGame.{game_of_tree};
+ghost use Rattle.game_theory.specs.Behaviour.{Behaviour as TreeBehaviour, payoff};
+ghost use Rattle.game_theory.specs.Lines.{listed};
+ghost use Rattle.game_theory.specs.TreeEntries.{tree_entries};
+ghost use Rattle.subgames.specs.FoundSubgames.{AreSubgamesOf};
+ghost use Rattle.subgames.specs.Roots.{IsSubgameRoot};
+ghost use Rattle.two_player_tools.specs.KnownCuts.{AreKeptTo, AreSolvedFrom, IsRoomFor, worth_in};
+ghost use Rattle.two_player_tools.specs.Perfect.{
+  IsStoppedAt,
+  cut_in,
+  entries_by,
+  in_subgame,
+  payoffs_of,
+  perfect_in,
+  perfect_text,
+  plans_by,
+  worth_refusal,
+};
+ghost use Rattle.two_player_tools.specs.PlanWeights.{pair_of};
+
+use crate::forms::{Method, form_of_tree, two_players_of};
+use crate::pivoting::{PlanWeights, equilibrium_in};
+use crate::solving::solve;
+use behaviour_profile::{Behaviour, starts_of};
+use frac128::{Frac, Memory};
+use game_core::tree_parts::{action_count, owner, stands_for_game_tree};
+use game_core::{Tree, trees_are_game_trees};
+use ne_checker::{PayoffsStop, behaviour_payoffs};
+use ne_printer::line;
+use perfect_recall::find_recall;
+use refusals::{Refusal, Site};
+use sequence_form::SeqForm;
+use std::alloc::Global;
+use subgames::{Cut, Subgames, sets_stand_in_one_cut};
+
+/// What is known once the cuts at some of the nodes where subgames begin are solved.
+#[derive(Debug, Drop)]
+pub struct Known {
+    /// For each node and each player what the node is worth.
+    pub worth: Vec<Frac>,
+    /// For each set the probability of each action.
+    pub lists: Vec<Vec<Frac>>,
+}
+
+// A cut's behaviour, and what it pays each player, which is left out at the tree's root.
+#[derive(Debug, Drop)]
+struct SolvedCut {
+    behaviour: Behaviour,
+    payoffs: Vec<Frac>,
+}
+
+// The plans that a method finds for a form.
+fn plans_by(alloc: Global, method: Method, form: &SeqForm) -> Result<PlanWeights, Refusal>
+    ensures answer { Gives Refusal.Memory (plans_by method form.now) (map_ok result pair_of) }
+    ensures one { IfOk result (λ plans. length plans.one.items ≡ form.now.first.sequences) }
+    ensures two { IfOk result (λ plans. length plans.two.items ≡ form.now.second.sequences) }
+{
+    match method {
+        Method::LinearProgram => {
+            let solved = solve(alloc, form)?;
+            let one = solved.plans.one().to_vec(alloc)?;
+            let two = solved.plans.two().to_vec(alloc)?;
+            Ok(PlanWeights { one, two })
+        }
+        Method::Complementarity => equilibrium_in(alloc, form),
+    }
+}
+
+// The behaviour that a method finds for a tree.
+fn behaviour_by(alloc: Global, method: Method, tree: &Tree) -> Result<Behaviour, Refusal>
+    requires { length tree.now.players ≡ 2 }
+    ensures answer { Gives Refusal.Memory (entries_by method tree.now) result }
+    ensures entries { IfOk result (AreBehaviourEntries tree.now) }
+{
+    let form = form_of_tree(alloc, method, tree)?;
+    let plans = plans_by(alloc, method, &form)?;
+    Ok(Behaviour::from_plans(alloc, tree, &form, &plans.one, &plans.two)?)
+}
+
+// The number in the whole tree of a node of a cut.
+fn whole_node(nodes: &[u32], node: u32) -> u32
+    ensures { result ≡ slice_index nodes.now node }
+{
+    match nodes.get(node as usize) {
+        Some(number) => *number,
+        None => 0,
+    }
+}
+
+// A refusal in the cut at a node, as it is told of the whole tree.
+fn in_subgame(root: u32, nodes: &[u32], refusal: Refusal) -> Refusal
+    ensures { result ≡ in_subgame root nodes.now refusal }
+{
+    match refusal {
+        Refusal::Range { site, unfit } => Refusal::SubgameRange {
+            node: root,
+            site,
+            unfit,
+        },
+        Refusal::NotConstant {
+            first,
+            second,
+            first_sum,
+            second_sum,
+        } => Refusal::NotConstant {
+            first: whole_node(nodes, first),
+            second: whole_node(nodes, second),
+            first_sum,
+            second_sum,
+        },
+        other => other,
+    }
+}
+
+// What a behaviour pays each player in the cut at a node.
+fn payoffs_of(
+    alloc: Global,
+    root: u32,
+    cut: &Tree,
+    behaviour: &Behaviour,
+) -> Result<Vec<Frac>, Refusal>
+    requires entries { AreBehaviourEntries cut.now behaviour.now }
+    ensures payoffs { (b : TreeBehaviour) → let t = game_of_tree cut.now in
+        behaviour.now ≡ tree_entries t b
+        → IfOk result (λ payoffs. payoffs.items ≡ listed t.players (payoff t b)) }
+    ensures stops { Gives Refusal.Memory
+        (refused_by (worth_refusal root) (payoffs_of cut.now behaviour.now))
+        (map_ok result (λ _. tt)) }
+{
+    match behaviour_payoffs(alloc, cut, behaviour) {
+        Ok(payoffs) => Ok(payoffs),
+        Err(PayoffsStop::Range { player, unfit }) => Err(Refusal::SubgameRange {
+            node: root,
+            site: Site::PlayerValue { player },
+            unfit,
+        }),
+        Err(PayoffsStop::Memory) => Err(Refusal::Memory),
+    }
+}
+
+// The solution of the cut at a node.
+fn solve_cut(alloc: Global, method: Method, root: u32, cut: &Cut) -> Result<SolvedCut, Refusal>
+    requires { length cut.now.tree.players ≡ 2 }
+    ensures answer { Gives Refusal.Memory (cut_in method root cut.now)
+        (map_ok result (λ solved. solved.behaviour)) }
+    ensures entries { IfOk result (λ solved. AreBehaviourEntries cut.now.tree solved.behaviour) }
+    ensures payoffs { (b : TreeBehaviour) → let t = game_of_tree cut.now.tree in
+        IfOk result (λ solved. root ≢ 0 → solved.behaviour ≡ tree_entries t b
+        → solved.payoffs.items ≡ listed t.players (payoff t b)) }
+    ensures none { IfOk result (λ solved. root ≡ 0 → length solved.payoffs.items ≡ 0) }
+{
+    let behaviour = match behaviour_by(alloc, method, cut.tree()) {
+        Ok(behaviour) => behaviour,
+        Err(refusal) => return Err(in_subgame(root, cut.nodes(), refusal)),
+    };
+    let payoffs = if root == 0 {
+        Vec::new(alloc)
+    } else {
+        payoffs_of(alloc, root, cut.tree(), &behaviour)?
+    };
+    Ok(SolvedCut { behaviour, payoffs })
+}
+
+// Keeps what a node is worth to each player.
+fn keep_worth(worth: &mut [Frac], root: u32, payoffs: &[Frac])
+    requires { root * length payoffs.now + length payoffs.now ≤ length worth.old }
+    ensures as_many { length worth.new ≡ length worth.old }
+    ensures kept { (i : ℕ) → i < length payoffs.now
+        → entry_at worth.new (root * length payoffs.now + i) ≡ entry_at payoffs.now i }
+    ensures others { (k : ℕ) → (k < root * length payoffs.now)
+        ⊎ (root * length payoffs.now + length payoffs.now ≤ k)
+        → entry_at worth.new k ≡ entry_at worth.old k }
+{
+    let start = root as usize * payoffs.len();
+    worth[start..start + payoffs.len()].copy_from_slice(payoffs);
+}
+
+// Keeps the probabilities at the players' sets of a cut.
+fn keep_lists(
+    alloc: Global,
+    lists: &mut [Vec<Frac>],
+    cut: &Cut,
+    behaviour: &Behaviour,
+) -> Result<(), Memory>
+    requires entries { AreBehaviourEntries cut.now.tree behaviour.now }
+    requires sets { length cut.now.sets ≡ length cut.now.tree.sets }
+    requires differ { (r q : ℕ) → r < length cut.now.sets → q < length cut.now.sets
+        → slice_index cut.now.sets r ≡ slice_index cut.now.sets q → r ≡ q }
+    requires within { All (λ s. s < length lists.old) cut.now.sets }
+    requires room { (r : ℕ) → r < length cut.now.sets
+        → length (slice_index_or (map (λ v. v.items) lists.old) (slice_index cut.now.sets r) [])
+        ≡ (game_of_tree cut.now.tree).actions r }
+    ensures { (b : TreeBehaviour) → behaviour.now ≡ tree_entries (game_of_tree cut.now.tree) b
+        → OnOk result (AreKeptTo cut.now (length cut.now.tree.sets) b
+        (map (λ v. v.items) lists.old) (map (λ v. v.items) lists.new)) }
+{
+    let tree = cut.tree();
+    let starts = starts_of(alloc, tree)?;
+    for set in 0..tree.sets().len() {
+        if owner(tree, set).is_some() {
+            let number = cut.sets()[set] as usize;
+            let probabilities = behaviour.at_set(tree, &starts, set as u32);
+            lists[number].as_mut_slice().copy_from_slice(probabilities);
+        }
+    }
+    Ok(())
+}
+
+// Solves the cut at a node where a subgame begins, where those at later such nodes are solved.
+fn solve_at(
+    alloc: Global,
+    method: Method,
+    tree: &Tree,
+    subgames: &Subgames,
+    root: u32,
+    known: &mut Known,
+) -> Result<(), Refusal>
+    requires two { length tree.now.players ≡ 2 }
+    requires subgames { AreSubgamesOf tree.now subgames.now }
+    requires within { root < length tree.now.nodes }
+    requires root { IsSubgameRoot (game_of_tree tree.now) root }
+    requires later { AreSolvedFrom method tree.now (root + 1) known.old }
+    ensures solved { OnOk result (AreSolvedFrom method tree.now root known.new) }
+    ensures stops { IfErr result (λ r. (r ≡ Refusal.Memory)
+        ⊎ IsStoppedAt method tree.now (worth_in tree.now known.old) root r) }
+{
+    stands_for_game_tree(tree);
+    trees_are_game_trees();
+    sets_stand_in_one_cut();
+    let cut = subgames.cut_at(alloc, tree, root, known.worth.as_slice())?;
+    let solved = solve_cut(alloc, method, root, &cut)?;
+    keep_lists(alloc, known.lists.as_mut_slice(), &cut, &solved.behaviour)?;
+    keep_worth(known.worth.as_mut_slice(), root, solved.payoffs.as_slice());
+    Ok(())
+}
+
+// Room for what is known of a tree.
+fn known_of(alloc: Global, tree: &Tree) -> Result<Known, Memory>
+    requires two { length tree.now.players ≡ 2 }
+    ensures { IfOk result (IsRoomFor tree.now) }
+{
+    stands_for_game_tree(tree);
+    let worth = vec![in alloc; Frac::zero(); tree.nodes().len() * tree.players().len()]?;
+    let mut lists = Vec::with_capacity(alloc, tree.sets().len())?;
+    for set in 0..tree.sets().len() {
+        lists.push(vec![in alloc; Frac::zero(); action_count(tree, set)]?)?;
+    }
+    Ok(Known { worth, lists })
+}
+
+// The behaviour that solves the cut wherever a subgame begins.
+fn perfect_in(alloc: Global, method: Method, tree: &Tree) -> Result<Behaviour, Refusal>
+    requires two { length tree.now.players ≡ 2 }
+    ensures { Gives Refusal.Memory (perfect_in method tree.now) result }
+{
+    let subgames = Subgames::find(alloc, tree)?;
+    let mut known = known_of(alloc, tree)?;
+    let mut root = tree.nodes().len() as u32;
+    while root > 0 {
+        root -= 1;
+        if subgames.begins_at(root) {
+            solve_at(alloc, method, tree, &subgames, root, &mut known)?;
+        }
+    }
+    Ok(Behaviour::from_lists(alloc, tree, known.lists.as_slice())?)
+}
+
+/// The line of the behaviour on a tree that a method finds subgame by subgame.
+pub(crate) fn perfect_text(alloc: Global, method: Method, tree: &Tree) -> Result<Vec<u8>, Refusal>
+    ensures { Gives Refusal.Memory (perfect_text method tree.now)
+        (map_ok result (λ text. text.items)) }
+{
+    two_players_of(tree.players().len() as u32)?;
+    find_recall(alloc, tree)?;
+    let behaviour = perfect_in(alloc, method, tree)?;
+    Ok(line(alloc, behaviour.entries())?)
+}
