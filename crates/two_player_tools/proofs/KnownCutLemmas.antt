@@ -1,7 +1,8 @@
 -- What is known of the cuts of a tree, as one after another is solved.
-use Rattle.std.proofs.Common.{ℕ, ◌+◌, ◌*◌, ◌<◌, ◌≤◌, ◌≡◌, ◌≢◌, ◌⊎◌, inl, inr, Ok, Err, Result, Option, None, Some, List, [], length, get_or, set, refl, sym, ap, ◌∙◌, subst, subst₂, arith}
+use Rattle.std.proofs.Common.{ℕ, ◌+◌, ◌*◌, ◌<◌, ◌≤◌, ◌≡◌, ◌≢◌, ◌⊎◌, inl, inr, Ok, Err, Result, Option, None, Some, List, [], ◌∷◌, ◌++◌, length, map, get_or, set, refl, sym, ap, ◌∙◌, subst, subst₂, arith}
+use Rattle.std.proofs.Math.Seq.{get_or-append_seam}
 use Rattle.std.proofs.lemmas.Bool.{cases_eq, cases_lt}
-use Rattle.std.proofs.lemmas.List.{get_or_default, get_or-set_same, get_or-set_other, length-set}
+use Rattle.std.proofs.lemmas.List.{get_or_append_left, get_or_default, get_or-map, get_or-set_same, get_or-set_other, length-append, length-set}
 use Rattle.std.proofs.lemmas.List.Elements.{Contains-get_or}
 use Rattle.std.proofs.lemmas.Option.{none-some}
 use Rattle.std.specs.Prelude.{IfErr}
@@ -170,6 +171,17 @@ pub record IsRowKept (root : ℕ) (payoffs old new : List ℚ) : Type 0 where
   pub as_many : length new ≡ length old
   pub kept : (i : ℕ) → i < length payoffs → entry_at new (root * length payoffs + i) ≡ entry_at payoffs i
   pub others : (k : ℕ) → (k < root * length payoffs) ⊎ (root * length payoffs + length payoffs ≤ k) → entry_at new k ≡ entry_at old k
+
+-- ---- room
+-- lists with one more, which is as long as it is to be
+pub lists-pushed : {V X : Type 0} (f : V → List X) (lists : List V) (v : V) (n : ℕ) (longs : ℕ → ℕ) → length lists ≡ n → ((s : ℕ) → s < n → length (get_or (map f lists) s []) ≡ longs s) → length (f v) ≡ longs n → (s : ℕ) → s < n + 1 → length (get_or (map f (lists ++ v ∷ [])) s []) ≡ longs s
+lists-pushed f lists v n longs count each last s below =
+    let long : length (lists ++ v ∷ []) ≡ length lists + 1 = length-append lists (v ∷ []) in
+    let inside : s < length (lists ++ v ∷ []) = omega (arith, below, count, long) in
+    ap length (get_or-map f (lists ++ v ∷ []) s v [] inside) ∙ elim (cases_lt s n) [
+      | inl early ↦ let here : s < length lists = omega (arith, early, count) in ap (λ x. length (f x)) (get_or_append_left lists (v ∷ []) v s here) ∙ sym (ap length (get_or-map f lists s v [] here)) ∙ each s early
+      | inr late ↦ let same : s ≡ n = omega (arith, below, late) in ap (λ k. length (f (get_or (lists ++ v ∷ []) k v))) (same ∙ sym count) ∙ ap (λ x. length (f x)) (get_or-append_seam lists v [] v) ∙ last ∙ ap longs (sym same)
+    ]
 
 -- ---- one cut more
 module _ (method : Method) (t : GameTree) (root : ℕ) (known new : Known) (made : MadeCut) (found : Behaviour) (payoffs : List ℚ)

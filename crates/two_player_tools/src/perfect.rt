@@ -57,7 +57,7 @@ use std::alloc::Global;
 use subgames::{Cut, Subgames, sets_stand_in_one_cut};
 
 /// What is known once the cuts at some of the nodes where subgames begin are solved.
-#[derive(Debug, Drop)]
+#[derive(Drop)]
 pub struct Known {
     /// For each node and each player what the node is worth.
     pub worth: Vec<Frac>,
@@ -66,7 +66,7 @@ pub struct Known {
 }
 
 // A cut's behaviour, and what it pays each player, which is left out at the tree's root.
-#[derive(Debug, Drop)]
+#[derive(Drop)]
 struct SolvedCut {
     behaviour: Behaviour,
     payoffs: Vec<Frac>,
