@@ -1,14 +1,19 @@
 -- What the stages before keep of a sequence form and an optimum.
-use Rattle.std.proofs.Common.{ℕ, ◌≡◌, ◌∙◌, sym, ap, subst, arith, Bool, true, false, Option, List, Ok}
+use Rattle.std.proofs.Common.{ℕ, ◌≡◌, ◌≤◌, ◌∙◌, sym, ap, subst, arith, Bool, true, false, Option, List, length, Ok}
+use Rattle.std.proofs.lemmas.List.{length-map}
+use Rattle.answers.proofs.AnswerLemmas.{ok_same}
 use Rattle.game_theory.specs.FirstNodes.{AreNumberedByFirstNodes}
 use Rattle.game_theory.specs.Trees.{IsTree as is_game_tree}
+use Rattle.game_core.specs.Limits.{most_rows}
 use Rattle.game_core.specs.Tree.{GameTree, IsGameTree}
 use Rattle.game_core.specs.TreeGame.{game_of_tree}
 use Rattle.game_core.specs.declared.game.Game.{Game}
 use Rattle.game_core.specs.declared.game.Game.TheVariants.{Strategic, Extensive}
 use Rattle.perfect_recall.specs.Found.{IsRecallOf}
 use Rattle.sequence_forms.specs.Forms.{HasTwoWhoRecall}
-use Rattle.sequence_data.specs.Data.{FormData, IsFormData, IsSideData}
+use Rattle.sequence_forms.specs.Sides.{sequences}
+use Rattle.sequence_data.specs.Data.{FormData, IsFormData, IsSideData, side_of}
+use Rattle.sequence_data.specs.declared.types.SetRow.{SetRow}
 use Rattle.sequence_form.specs.Forms.{tree_form}
 use Rattle.sequence_form.specs.declared.counts.Counts.{Counts}
 use Rattle.sequence_form.proofs.FormLemmas.{tree_form-two}
@@ -68,3 +73,22 @@ module _ (f : FormData) (p o : Program) (plans : PlanPair) (h : IsSolving f p o 
 
   pub second-same : o.second ≡ f.second
   second-same = h.optimum.second ∙ sym (ap (λ (x : Program). x.second) starts_so)
+
+  -- the form's sets are few
+  pub few-first : length f.first.sets ≤ most_rows
+  few-first = omega (arith, h.program.1, length-map f.first.sets (λ (r : SetRow). r.before))
+
+  pub few-second : length f.second.sets ≤ most_rows
+  few-second = omega (arith, h.program.1, length-map f.second.sets (λ (r : SetRow). r.before))
+
+  made_so : plans ≡ record { one = h.planned.0; two = h.planned.2.0 }
+  made_so = ok_same plans (record { one = h.planned.0; two = h.planned.2.0 }) h.planned.2.2
+
+  -- the plans have a weight for each of its sequences
+  pub one-long : length plans.one ≡ f.first.sequences
+  one-long =
+      ap (λ (x : PlanPair). length x.one) made_so ∙ ap length (ok_same h.planned.0 h.planned.1.0 h.planned.1.2.2) ∙ h.planned.1.1.0 ∙ ap (λ s. sequences (side_of s)) first-same ∙ sym h.valid.first_is.sequences_are
+
+  pub two-long : length plans.two ≡ f.second.sequences
+  two-long =
+      ap (λ (x : PlanPair). length x.two) made_so ∙ ap length (ok_same h.planned.2.0 h.planned.2.1.0 h.planned.2.1.2.2) ∙ h.planned.2.1.1.0 ∙ ap (λ s. sequences (side_of s)) second-same ∙ sym h.valid.second_is.sequences_are

@@ -14,3 +14,4 @@ pub mod PlanEntryLemmas
 pub mod SolvedCutLemmas
 pub mod StrategicFormLemmas
 pub mod ToolLemmas
+pub mod TreeEntryLemmas

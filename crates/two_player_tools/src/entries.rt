@@ -1,7 +1,10 @@
 // The line of two plans.
 ghost use Rattle.std.specs.Prelude.{◌≡◌, ◌++◌, false, drop, length, IfOk, Ok};
-ghost use Rattle.answers.specs.Answers.{Gives, map_ok};
+ghost use Rattle.answers.specs.Answers.{Gives, map_ok, refused_by};
+ghost use Rattle.behaviour_profile.specs.EntryStarts.{AreBehaviourEntries};
+ghost use Rattle.behaviour_profile.specs.Plans.{plan_behaviour};
 ghost use Rattle.game_theory.specs.Lines.{line_text};
+ghost use Rattle.refusals.specs.Told.{behaviour_refusal};
 ghost use Rattle.game_core.specs.declared.game.Game.TheVariants.{Extensive};
 ghost use Rattle.sequence_form.specs.Forms.{tree_form};
 ghost use Rattle.two_player_tools.specs.Entries.{plans_line};
@@ -37,6 +40,24 @@ fn strategies_line(alloc: Global, one: &[Frac], two: &[Frac]) -> Result<Vec<u8>,
     line(alloc, &entries)
 }
 
+/// The behaviour of two plans on a tree.
+pub(crate) fn plan_behaviour(
+    alloc: Global,
+    tree: &Tree,
+    form: &SeqForm,
+    one: &[Frac],
+    two: &[Frac],
+) -> Result<Behaviour, Refusal>
+    requires form { tree_form tree.now (Ok form.now) }
+    requires one { length one.now ≡ form.now.first.sequences }
+    requires two { length two.now ≡ form.now.second.sequences }
+    ensures answer { Gives Refusal.Memory
+        (refused_by behaviour_refusal (plan_behaviour tree.now one.now two.now)) result }
+    ensures entries { IfOk result (AreBehaviourEntries tree.now) }
+{
+    Ok(Behaviour::from_plans(alloc, tree, form, one, two)?)
+}
+
 // The line of the behaviour of two plans on a tree.
 fn behaviour_line(
     alloc: Global,
@@ -51,7 +72,7 @@ fn behaviour_line(
     ensures { Gives Refusal.Memory (plans_line false (Extensive tree.now) one.now two.now)
         (map_ok result (λ text. text.items)) }
 {
-    let behaviour = Behaviour::from_plans(alloc, tree, form, one, two)?;
+    let behaviour = plan_behaviour(alloc, tree, form, one, two)?;
     Ok(line(alloc, behaviour.entries())?)
 }
 

@@ -2,12 +2,14 @@
 ghost use Rattle.std.specs.Prelude.{◌≡◌, ◌≢◌, length};
 ghost use Rattle.answers.specs.Answers.{Gives, refuse_where, refused_by};
 ghost use Rattle.game_core.specs.Limits.{most_rows, within};
+ghost use Rattle.game_core.specs.TreeGame.{game_of_tree};
+ghost use Rattle.perfect_recall.specs.Found.{IsRecallOf};
 ghost use Rattle.refusals.specs.Told.{limit_refusal};
 ghost use Rattle.sequence_form.specs.Counts.{AreFew};
 ghost use Rattle.two_player_tools.specs.TwoPlayers.{players_of, two_players, rows_by, form_of_table, form_of_tree, form_in};
 
 use game_core::{Game, MOST_ROWS, Table, TooLarge, Tree, What};
-use perfect_recall::find_recall;
+use perfect_recall::{Recall, find_recall};
 use reduced_form::reduce;
 use refusals::Refusal;
 use sequence_form::{
@@ -78,14 +80,29 @@ fn form_of_table(alloc: Global, method: Method, table: &Table) -> Result<SeqForm
     Ok(build_table(alloc, table)?)
 }
 
+// The sequence form of a tree in which all players recall, where the rows that the method counts
+// are within the limit.
+fn form_by_recall(
+    alloc: Global,
+    method: Method,
+    tree: &Tree,
+    recall: &Recall,
+) -> Result<SeqForm, Refusal>
+    requires two { length tree.now.players ≡ 2 }
+    requires recall { IsRecallOf (game_of_tree tree.now) recall.now }
+    ensures { Gives Refusal.Memory (form_of_tree (rows_by method) tree.now) result }
+{
+    within_rows(row_count(method, &counts_tree(tree)))?;
+    Ok(build(alloc, tree, recall)?)
+}
+
 /// The sequence form of a tree, where the rows that the method counts are within the limit.
 pub(crate) fn form_of_tree(alloc: Global, method: Method, tree: &Tree) -> Result<SeqForm, Refusal>
     requires { length tree.now.players ≡ 2 }
     ensures { Gives Refusal.Memory (form_of_tree (rows_by method) tree.now) result }
 {
     let recall = find_recall(alloc, tree)?;
-    within_rows(row_count(method, &counts_tree(tree)))?;
-    Ok(build(alloc, tree, &recall)?)
+    form_by_recall(alloc, method, tree, &recall)
 }
 
 /// The sequence form of a game, where the rows that the method counts are within the limit: of a

@@ -1,11 +1,13 @@
 // The tool `lp`.
+ghost use Rattle.std.specs.Prelude.{◌≡◌, Ok};
 ghost use Rattle.answers.specs.Answers.{Gives, map_ok};
+ghost use Rattle.sequence_form.specs.Counts.{size_of_program};
 ghost use Rattle.two_player_tools.specs.Entries.{plans_line};
 ghost use Rattle.two_player_tools.specs.Lp.{lp, solution_text};
 ghost use Rattle.two_player_tools.specs.LpLaws.{LpTextsAreSolutions};
 ghost use Rattle.two_player_tools.specs.Perfect.{lp_tool};
 ghost use Rattle.two_player_tools.specs.Solved.{HasSizesOf, solution_of};
-ghost use Rattle.two_player_tools.specs.TwoPlayers.{HasForm};
+ghost use Rattle.two_player_tools.specs.TwoPlayers.{HasForm, form_in, players_of};
 
 use crate::entries::plans_line;
 use crate::forms::{Method, form_in, two_players};
@@ -57,6 +59,24 @@ fn solution_text(
     Ok(text)
 }
 
+// The line of an equilibrium of a game by its form, with its value and prices where they are asked
+// for.
+fn form_text(
+    alloc: Global,
+    strategic: bool,
+    prices: bool,
+    game: &Game,
+    form: &SeqForm,
+) -> Result<Vec<u8>, Refusal>
+    requires two { players_of game.now ≡ 2 }
+    requires form { form_in size_of_program strategic game.now (Ok form.now) }
+    ensures { Gives Refusal.Memory (lp strategic prices game.now)
+        (map_ok result (λ text. text.items)) }
+{
+    let solved = solve(alloc, form)?;
+    solution_text(alloc, strategic, prices, game, form, &solved)
+}
+
 // The line of an equilibrium of a game, with its value and prices where they are asked for.
 fn equilibrium_text(
     alloc: Global,
@@ -69,8 +89,7 @@ fn equilibrium_text(
 {
     two_players(game)?;
     let form = form_in(alloc, Method::LinearProgram, strategic, game)?;
-    let solved = solve(alloc, &form)?;
-    solution_text(alloc, strategic, prices, game, &form, &solved)
+    form_text(alloc, strategic, prices, game, &form)
 }
 
 /// The text of `lp`: the line of an equilibrium of a game, with its value and prices where they are

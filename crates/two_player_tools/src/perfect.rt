@@ -12,6 +12,7 @@ ghost use Rattle.std.specs.Prelude.{
   All,
   IfErr,
   IfOk,
+  Ok,
   OnOk,
   length,
   map,
@@ -21,10 +22,12 @@ ghost use Rattle.std.specs.Prelude.{
 ghost use Rattle.answers.specs.Answers.{Gives, map_ok, refused_by};
 ghost use Rattle.rational.specs.Sum.{entry_at};
 ghost use Rattle.behaviour_profile.specs.EntryStarts.{AreBehaviourEntries};
+ghost use Rattle.behaviour_profile.specs.ListedBehaviour.{HasProbabilities};
 ghost use Rattle.game_core.specs.TreeGame.{game_of_tree};
 ghost use Rattle.game_theory.specs.Behaviour.{Behaviour as TreeBehaviour, payoff};
 ghost use Rattle.game_theory.specs.Lines.{listed};
 ghost use Rattle.game_theory.specs.TreeEntries.{tree_entries};
+ghost use Rattle.subgames.specs.CutTrees.{IsCutAt};
 ghost use Rattle.subgames.specs.FoundSubgames.{AreSubgamesOf};
 ghost use Rattle.subgames.specs.Roots.{IsSubgameRoot};
 ghost use Rattle.two_player_tools.specs.KnownCuts.{AreKeptTo, AreSolvedFrom, IsRoomFor, worth_in};
@@ -36,13 +39,13 @@ ghost use Rattle.two_player_tools.specs.Perfect.{
   payoffs_of,
   perfect_in,
   perfect_text,
-  plans_by,
   worth_refusal,
 };
-ghost use Rattle.two_player_tools.specs.PlanWeights.{pair_of};
+ghost use Rattle.two_player_tools.specs.TwoPlayers.{form_of_tree, rows_by};
 
+use crate::entries::plan_behaviour;
 use crate::forms::{Method, form_of_tree, two_players_of};
-use crate::pivoting::{PlanWeights, equilibrium_in};
+use crate::pivoting::equilibrium_in;
 use crate::solving::solve;
 use behaviour_profile::{Behaviour, starts_of};
 use frac128::{Frac, Memory};
@@ -72,20 +75,41 @@ struct SolvedCut {
     payoffs: Vec<Frac>,
 }
 
-// The plans that a method finds for a form.
-fn plans_by(alloc: Global, method: Method, form: &SeqForm) -> Result<PlanWeights, Refusal>
-    ensures answer { Gives Refusal.Memory (plans_by method form.now) (map_ok result pair_of) }
-    ensures one { IfOk result (λ plans. length plans.one.items ≡ form.now.first.sequences) }
-    ensures two { IfOk result (λ plans. length plans.two.items ≡ form.now.second.sequences) }
+// The behaviour of a tree that its linear program gives.
+fn program_behaviour(alloc: Global, tree: &Tree, form: &SeqForm) -> Result<Behaviour, Refusal>
+    requires { form_of_tree (rows_by Method.LinearProgram) tree.now (Ok form.now) }
+    ensures answer { Gives Refusal.Memory (entries_by Method.LinearProgram tree.now) result }
+    ensures entries { IfOk result (AreBehaviourEntries tree.now) }
+{
+    let solved = solve(alloc, form)?;
+    let plans = &solved.plans;
+    plan_behaviour(alloc, tree, form, plans.one(), plans.two())
+}
+
+// The behaviour of a tree that its complementarity problem gives.
+fn pivot_behaviour(alloc: Global, tree: &Tree, form: &SeqForm) -> Result<Behaviour, Refusal>
+    requires { form_of_tree (rows_by Method.Complementarity) tree.now (Ok form.now) }
+    ensures answer { Gives Refusal.Memory (entries_by Method.Complementarity tree.now) result }
+    ensures entries { IfOk result (AreBehaviourEntries tree.now) }
+{
+    let plans = equilibrium_in(alloc, form)?;
+    plan_behaviour(alloc, tree, form, &plans.one, &plans.two)
+}
+
+// The behaviour of a tree that a method finds by the tree's form.
+fn form_behaviour(
+    alloc: Global,
+    method: Method,
+    tree: &Tree,
+    form: &SeqForm,
+) -> Result<Behaviour, Refusal>
+    requires { form_of_tree (rows_by method) tree.now (Ok form.now) }
+    ensures answer { Gives Refusal.Memory (entries_by method tree.now) result }
+    ensures entries { IfOk result (AreBehaviourEntries tree.now) }
 {
     match method {
-        Method::LinearProgram => {
-            let solved = solve(alloc, form)?;
-            let one = solved.plans.one().to_vec(alloc)?;
-            let two = solved.plans.two().to_vec(alloc)?;
-            Ok(PlanWeights { one, two })
-        }
-        Method::Complementarity => equilibrium_in(alloc, form),
+        Method::LinearProgram => program_behaviour(alloc, tree, form),
+        Method::Complementarity => pivot_behaviour(alloc, tree, form),
     }
 }
 
@@ -96,8 +120,7 @@ fn behaviour_by(alloc: Global, method: Method, tree: &Tree) -> Result<Behaviour,
     ensures entries { IfOk result (AreBehaviourEntries tree.now) }
 {
     let form = form_of_tree(alloc, method, tree)?;
-    let plans = plans_by(alloc, method, &form)?;
-    Ok(Behaviour::from_plans(alloc, tree, &form, &plans.one, &plans.two)?)
+    form_behaviour(alloc, method, tree, &form)
 }
 
 // The number in the whole tree of a node of a cut.
@@ -229,6 +252,34 @@ fn keep_lists(
     Ok(())
 }
 
+// Solves a cut and keeps its solution, where the cuts at later nodes are solved.
+fn solve_and_keep(
+    alloc: Global,
+    method: Method,
+    tree: &Tree,
+    root: u32,
+    cut: &Cut,
+    known: &mut Known,
+) -> Result<(), Refusal>
+    requires two { length tree.now.players ≡ 2 }
+    requires within { root < length tree.now.nodes }
+    requires root { IsSubgameRoot (game_of_tree tree.now) root }
+    requires cut { IsCutAt tree.now root (worth_in tree.now known.old) cut.now.nodes cut.now.sets
+        cut.now.tree }
+    requires later { AreSolvedFrom method tree.now (root + 1) known.old }
+    ensures solved { OnOk result (AreSolvedFrom method tree.now root known.new) }
+    ensures stops { IfErr result (λ r. (r ≡ Refusal.Memory)
+        ⊎ IsStoppedAt method tree.now (worth_in tree.now known.old) root r) }
+{
+    stands_for_game_tree(tree);
+    trees_are_game_trees();
+    sets_stand_in_one_cut();
+    let solved = solve_cut(alloc, method, root, cut)?;
+    keep_lists(alloc, known.lists.as_mut_slice(), cut, &solved.behaviour)?;
+    keep_worth(known.worth.as_mut_slice(), root, solved.payoffs.as_slice());
+    Ok(())
+}
+
 // Solves the cut at a node where a subgame begins, where those at later such nodes are solved.
 fn solve_at(
     alloc: Global,
@@ -247,14 +298,20 @@ fn solve_at(
     ensures stops { IfErr result (λ r. (r ≡ Refusal.Memory)
         ⊎ IsStoppedAt method tree.now (worth_in tree.now known.old) root r) }
 {
-    stands_for_game_tree(tree);
-    trees_are_game_trees();
-    sets_stand_in_one_cut();
     let cut = subgames.cut_at(alloc, tree, root, known.worth.as_slice())?;
-    let solved = solve_cut(alloc, method, root, &cut)?;
-    keep_lists(alloc, known.lists.as_mut_slice(), &cut, &solved.behaviour)?;
-    keep_worth(known.worth.as_mut_slice(), root, solved.payoffs.as_slice());
-    Ok(())
+    solve_and_keep(alloc, method, tree, root, &cut, known)
+}
+
+// Room for the probabilities at each set of a tree.
+fn room_for_lists(alloc: Global, tree: &Tree) -> Result<Vec<Vec<Frac>>, Memory>
+    ensures { IfOk result (λ lists. HasProbabilities (game_of_tree tree.now)
+        (map (λ v. v.items) lists.items)) }
+{
+    let mut lists = Vec::with_capacity(alloc, tree.sets().len())?;
+    for set in 0..tree.sets().len() {
+        lists.push(vec![in alloc; Frac::zero(); action_count(tree, set)]?)?;
+    }
+    Ok(lists)
 }
 
 // Room for what is known of a tree.
@@ -264,11 +321,31 @@ fn known_of(alloc: Global, tree: &Tree) -> Result<Known, Memory>
 {
     stands_for_game_tree(tree);
     let worth = vec![in alloc; Frac::zero(); tree.nodes().len() * tree.players().len()]?;
-    let mut lists = Vec::with_capacity(alloc, tree.sets().len())?;
-    for set in 0..tree.sets().len() {
-        lists.push(vec![in alloc; Frac::zero(); action_count(tree, set)]?)?;
-    }
+    let lists = room_for_lists(alloc, tree)?;
     Ok(Known { worth, lists })
+}
+
+// The behaviour that solves the cut wherever a subgame begins, in the room for what is known.
+fn solve_all(
+    alloc: Global,
+    method: Method,
+    tree: &Tree,
+    subgames: &Subgames,
+    known: &mut Known,
+) -> Result<Behaviour, Refusal>
+    requires two { length tree.now.players ≡ 2 }
+    requires subgames { AreSubgamesOf tree.now subgames.now }
+    requires room { IsRoomFor tree.now known.old }
+    ensures { Gives Refusal.Memory (perfect_in method tree.now) result }
+{
+    let mut root = tree.nodes().len() as u32;
+    while root > 0 {
+        root -= 1;
+        if subgames.begins_at(root) {
+            solve_at(alloc, method, tree, subgames, root, known)?;
+        }
+    }
+    Ok(Behaviour::from_lists(alloc, tree, known.lists.as_slice())?)
 }
 
 // The behaviour that solves the cut wherever a subgame begins.
@@ -278,14 +355,7 @@ fn perfect_in(alloc: Global, method: Method, tree: &Tree) -> Result<Behaviour, R
 {
     let subgames = Subgames::find(alloc, tree)?;
     let mut known = known_of(alloc, tree)?;
-    let mut root = tree.nodes().len() as u32;
-    while root > 0 {
-        root -= 1;
-        if subgames.begins_at(root) {
-            solve_at(alloc, method, tree, &subgames, root, &mut known)?;
-        }
-    }
-    Ok(Behaviour::from_lists(alloc, tree, known.lists.as_slice())?)
+    solve_all(alloc, method, tree, &subgames, &mut known)
 }
 
 /// The line of the behaviour on a tree that a method finds subgame by subgame.

@@ -1,12 +1,12 @@
 // The plans of a sequence form in equilibrium, by its complementarity problem.
 ghost use Rattle.std.specs.Prelude.{◌≡◌, ◌<◌, length, IfOk};
-ghost use Rattle.answers.specs.Answers.{Gives, map_ok};
+ghost use Rattle.answers.specs.Answers.{Gives, map_ok, only};
 ghost use Rattle.game_theory.specs.Lines.{listed};
 ghost use Rattle.sequence_forms.specs.Sides.{sequences};
 ghost use Rattle.sequence_data.specs.Data.{side_of};
 ghost use Rattle.lemke_pivot.specs.Ends.{solved_in};
 ghost use Rattle.lemke_pivot.specs.Parts.{plan_one, plan_two};
-ghost use Rattle.two_player_tools.specs.Lcp.{equilibrium_in};
+ghost use Rattle.two_player_tools.specs.Lcp.{equilibrium_in, plans_at};
 ghost use Rattle.two_player_tools.specs.PlanWeights.{pair_of};
 
 use frac128::{Frac, Memory};
@@ -65,6 +65,19 @@ fn second_plan(alloc: Global, solution: &Solution, count: u32) -> Result<Vec<Fra
     Ok(plan)
 }
 
+// The plans of a form in a solution of its problem.
+fn plans_at(alloc: Global, form: &SeqForm, solution: &Solution) -> Result<PlanWeights, Refusal>
+    requires first { solution.now.first ≡ form.now.first }
+    requires second { solution.now.second ≡ form.now.second }
+    ensures answer { Gives Refusal.Memory (only (plans_at solution.now)) (map_ok result pair_of) }
+    ensures one { IfOk result (λ plans. length plans.one.items ≡ form.now.first.sequences) }
+    ensures two { IfOk result (λ plans. length plans.two.items ≡ form.now.second.sequences) }
+{
+    let one = first_plan(alloc, solution, form.first().sequences())?;
+    let two = second_plan(alloc, solution, form.second().sequences())?;
+    Ok(PlanWeights { one, two })
+}
+
 /// The plans of a form in equilibrium.
 pub fn equilibrium_in(alloc: Global, form: &SeqForm) -> Result<PlanWeights, Refusal>
     ensures answer { Gives Refusal.Memory (equilibrium_in form.now) (map_ok result pair_of) }
@@ -73,7 +86,5 @@ pub fn equilibrium_in(alloc: Global, form: &SeqForm) -> Result<PlanWeights, Refu
 {
     let lcp = problem(alloc, form)?;
     let solution = solved_in(lcp)?;
-    let one = first_plan(alloc, &solution, form.first().sequences())?;
-    let two = second_plan(alloc, &solution, form.second().sequences())?;
-    Ok(PlanWeights { one, two })
+    plans_at(alloc, form, &solution)
 }

@@ -1,30 +1,10 @@
-use Rattle.std.proofs.Common.{◌+◌, ◌*◌, ◌≡◌, ◌∙◌, [], get_or, length, map, ap, ap₂, arith}
-use Rattle.std.proofs.lemmas.List.{length-map, length_push}
-use Rattle.game_core.specs.TreeGame.{game_of_tree}
-use Rattle.two_player_tools.proofs.KnownCutLemmas.{lists-pushed}
+use Rattle.std.proofs.Common.{◌*◌, ◌≡◌, ◌∙◌, length, ap, ap₂, arith}
 use Rattle.two_player_tools.proofs.perfect.known_of.Goals as goal
-
-pub loop-set-preserved : goal.loop-set-preserved
-loop-set-preserved c =
-    let lists = c.loop-set.lists.items in
-    let longs = (game_of_tree c.args.tree.now).actions in
-    let before = c.loop-set.invariant in
-    let pushed = c.in_ok-push.ensures.items in
-    record {
-      one_for_each = ap length pushed ∙ length_push lists c.in_ok-vec.field-0 ∙ ap (λ n. n + 1) before.one_for_each;
-      as_long = λ s below. ap (λ xs. length (get_or (map (λ v. v.items) xs) s [])) pushed
-          ∙ lists-pushed (λ v. v.items) lists c.in_ok-vec.field-0 c.loop-set.set longs before.one_for_each before.as_long (omega (arith, c.in_ok-vec.field-0.ok.0, c.in_ok-vec.ensures.len, c.action_count.ensures)) s below;
-    }
 
 pub returns : goal.returns
 returns c =
-    let all : c.loop-set.set ≡ length c.args.tree.now.sets = omega (arith, c.loop-set-test.false, c.loop-set.auto.set-end, ap length c.sets-set-end.ensures.sets) in
     let long : length c.in_ok-worth.worth.items ≡ c.in_ok-worth.worth.len = omega (arith, c.in_ok-worth.worth.ok.0) in
-    let many = length-map c.loop-set.lists.items (λ v. v.items) in
     record {
       worth = long ∙ c.in_ok-worth.ensures.len ∙ ap₂ (λ m n. m * n) (ap length c.nodes.ensures.nodes) (ap length c.players.ensures.players);
-      lists = record {
-        one_for_each = many ∙ c.loop-set.invariant.one_for_each ∙ all;
-        as_long = λ s below. c.loop-set.invariant.as_long s (omega (arith, below, all));
-      };
+      lists = c.in_ok-lists.ensures;
     }

@@ -1,6 +1,6 @@
 use Rattle.std.proofs.Common.{ℕ, ◌<◌, ◌≡◌, [], get_or, length, map}
 use Rattle.game_core.specs.TreeGame.{game_of_tree}
-use Rattle.two_player_tools.proofs.perfect.known_of.Given as goal
+use Rattle.two_player_tools.proofs.perfect.room_for_lists.Given as goal
 
 -- there is a list for each set so far
 abbrev pub invariant-loop-set : goal.invariant-loop-set

@@ -1,6 +1,6 @@
 use Rattle.std.proofs.Common.{◌≤◌, length}
 use Rattle.two_player_tools.specs.KnownCuts.{AreSolvedFrom}
-use Rattle.two_player_tools.proofs.perfect.perfect_in.Given as goal
+use Rattle.two_player_tools.proofs.perfect.solve_all.Given as goal
 
 -- the cuts from here on are solved
 abbrev pub invariant-loop-root : goal.invariant-loop-root
