@@ -1,6 +1,7 @@
 -- Laws of answers.
 use Rattle.std.proofs.Common.{◌≡◌, ◌∙◌, inl, inr, ap, sym, subst, refl, Result, Ok, Err}
 use Rattle.std.specs.Result.{IsErrAnd}
+use Rattle.std.specs.Prelude.{IfErr}
 use Rattle.answers.specs.Answers.{Answer, only, refused, such_that, refuse_where, by_case, ◌>>=◌, refused_by, map_err, map_ok, IsSingle, Gives}
 
 -- two values of one answer
@@ -102,6 +103,21 @@ gives_bind_as memory p f y answer view h g = gives_bind memory p f y (map_ok ans
 pub gives_exit : {E X Y Z : Type 0} (memory : E) (p : Answer E Y) (f : Y → Answer E Z) (r : E) (answer : Result X E) (view : X → Z) → Gives memory p (Err r) → IsErrAnd answer (λ q. q ≡ r) → Gives memory (p >>= f) (map_ok answer view)
 gives_exit memory p f r (Ok x) view g e = elim e [ ]
 gives_exit memory p f r (Err q) view g e = subst (λ r. Gives memory (p >>= f) (Err r)) (sym e) (gives_first memory p f r g)
+
+-- a call that stops so gives this
+pub gives_stop : {E Z : Type 0} (memory : E) (p : Answer E Z) (r : E) (answer : Result Z E) → Gives memory p (Err r) → IsErrAnd answer (λ q. q ≡ r) → Gives memory p answer
+gives_stop memory p r (Ok z) g e = elim e [ ]
+gives_stop memory p r (Err q) g e = subst (λ r. Gives memory p (Err r)) (sym e) g
+
+-- the same where the answer's value stands for another
+pub gives_stop_as : {E X Z : Type 0} (memory : E) (p : Answer E Z) (r : E) (answer : Result X E) (view : X → Z) → Gives memory p (Err r) → IsErrAnd answer (λ q. q ≡ r) → Gives memory p (map_ok answer view)
+gives_stop_as memory p r (Ok x) view g e = elim e [ ]
+gives_stop_as memory p r (Err q) view g e = subst (λ r. Gives memory p (Err r)) (sym e) g
+
+-- what holds of the refusal that is given
+pub if_stop : {E X : Type 0} (P : E → Type 0) (r : E) (answer : Result X E) → P r → IsErrAnd answer (λ q. q ≡ r) → IfErr answer P
+if_stop P r (Ok x) h e = tt
+if_stop P r (Err q) h e = subst P (sym e) h
 
 -- what the exit of a `?` gives that tells a stage's reason to stop by a refusal
 pub gives_told_exit : {S E X Y Z : Type 0} (memory : S) (told : S → E) (p : Answer S Y) (f : Y → Answer E Z) (stop : S) (answer : Result X E) (view : X → Z) → Gives memory p (Err stop) → IsErrAnd answer (λ q. q ≡ told stop) → Gives (told memory) (refused_by told p >>= f) (map_ok answer view)

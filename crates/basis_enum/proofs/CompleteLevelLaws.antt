@@ -5,7 +5,7 @@ use Rattle.std.specs.List.{Contains}
 use Rattle.std.proofs.lemmas.Grind.{same_number_lists}
 use Rattle.std.proofs.lemmas.List.{get_or_default, length-set, map-append}
 use Rattle.std.proofs.lemmas.List.Elements.{Contains-append_left, Contains-append_right, Contains-append_cases, Contains-get_or}
-use Rattle.lists.proofs.ElementLemmas.{index_of}
+use Rattle.lists.proofs.ElementLemmas.{index_of, in_cases, first_in, rest_in, mapped, unmapped}
 use Rattle.rational.specs.Rational.{ℚ}
 use Rattle.linear_systems.specs.Rows.{basic_solution, IsLexicographicRow}
 use Rattle.linear_systems.specs.Reached.{IsVariableOf, in_row, in_column}
@@ -25,7 +25,6 @@ use Rattle.basis_enum.specs.Systems.{IsEnumerable}
 use Rattle.basis_enum.specs.Reached.{level_of, reached_in}
 use Rattle.basis_enum.proofs.LevelLemmas.{IsNext, first_read, next_read, level_many}
 use Rattle.basis_enum.proofs.DigitLemmas.{basis_tells}
-use Rattle.lists.proofs.AscendingNumberLemmas.{in_cases, first_in, rest_in, mapped, unmapped}
 use Rattle.basis_enum.proofs.NeighbourLemmas.{nonbasics_are, exchanged_at, exchanged_are}
 
 enumerable_digits : (s : LinearSystem) → IsEnumerable s → (v : ℕ) → IsVariableOf (system_of s) v → (0 < v) × (v ≤ 128)

@@ -4,9 +4,9 @@ use Rattle.std.proofs.Math.Nat.{two-pow-succ}
 use Rattle.std.proofs.lemmas.Bool.{cases_eq}
 use Rattle.std.specs.List.{Contains}
 use Rattle.std.proofs.lemmas.List.Sums.{sum_by-cons}
+use Rattle.lists.proofs.ElementLemmas.{first_in, rest_in, in_cases}
 use Rattle.linear_systems.proofs.PivotLemmas.{eqb_same, eqb_apart}
 use Rattle.basis_enum.specs.Bases.{digit, basis_of, AreVariables, ComesFirst}
-use Rattle.lists.proofs.AscendingNumberLemmas.{first_in, rest_in, in_cases}
 
 -- the number with the digits d 1, d 2, .. d n
 binary : ℕ → (ℕ → ℕ) → ℕ

@@ -9,8 +9,8 @@ use Rattle.basis_enum.proofs.NeighbourLemmas.{neighbour_is, neighbour_below}
 use Rattle.rational.specs.Rational.{zero_ℚ, ◌≤ℚ◌}
 use Rattle.rational.proofs.Field.{not_lt_of_le}
 use Rattle.linear_systems.proofs.LexRowLemmas.{lex_row_once}
-use Rattle.lists.proofs.AscendingNumberLemmas.{first_in, in_cases}
 use Rattle.std.proofs.lemmas.List.Elements.{Contains-append_left, Contains-append_right, Contains-append_cases}
+use Rattle.lists.proofs.ElementLemmas.{first_in, in_cases}
 use Rattle.basis_enum.specs.declared.found_pivots.FoundPivot.{FoundPivot}
 use Rattle.basis_enum.specs.Found.{IsFound, HasNone, AreFound}
 

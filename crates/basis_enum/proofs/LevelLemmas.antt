@@ -2,12 +2,12 @@
 use Rattle.std.proofs.Common.{ℕ, suc, zero, ◌≡◌, ◌<◌, ◌≤◌, ◌+◌, sym, ap, ap₂, ◌∙◌, subst, arith, inl, inr, List, [], ◌∷◌, ◌++◌, length, Ok}
 use Rattle.std.specs.List.{Contains}
 use Rattle.std.proofs.lemmas.List.{get_or_default, length-append}
+use Rattle.lists.proofs.ElementLemmas.{in_cases}
 use Rattle.lex_tableau.specs.Rows.{WholeTableau, IsTableau}
 use Rattle.lex_tableau.specs.Starts.{LinearSystem}
 use Rattle.lex_tableau.specs.StartStops.{IsStarted}
 use Rattle.basis_enum.specs.Levels.{Levels, Pivot, AreNextPivots, IsNextLevel, no_tableau, basis_count, most_bases, first_level}
 use Rattle.basis_enum.specs.Reached.{level_of, next_level}
-use Rattle.lists.proofs.AscendingNumberLemmas.{in_cases}
 
 -- level 0
 pub record IsFirst (s : LinearSystem) (l : Levels) : Type 0 where

@@ -9,7 +9,8 @@ use Rattle.lex_tableau.specs.Rows.{WholeTableau}
 use Rattle.basis_enum.specs.Bases.{basis_of, neighbour_of}
 use Rattle.basis_enum.specs.Levels.{Levels, Pivot, no_tableau, bases_of, entering, target, IsPivot, AreNextPivots, IsNew, IsEarlierPivot}
 use Rattle.lex_tableau.specs.Ratio.{IsLeavingRow}
-use Rattle.lists.proofs.AscendingNumberLemmas.{mapped, once_in, first_in, rest_in, in_cases}
+use Rattle.lists.proofs.AscendingNumberLemmas.{once_in}
+use Rattle.lists.proofs.ElementLemmas.{mapped, first_in, rest_in, in_cases}
 use Rattle.basis_enum.specs.declared.found_pivots.FoundPivot.{FoundPivot}
 use Rattle.basis_enum.specs.Found.{IsFoundBelow, AreFound, HasAllFound, IsFoundIn, AreFoundIn, AreReady, AreKnown}
 use Rattle.basis_enum.proofs.FoundPivotLemmas.{entering_bounds}

@@ -10,9 +10,10 @@ use Rattle.rational.specs.Sum.{sum_to}
 use Rattle.rational.proofs.RationalRing.{rational_ring}
 use Rattle.rational.proofs.SumLemmas.{sum_to-zeros}
 use Rattle.rational.proofs.Ring.{ring, num, ◌:+◌, ◌:*◌, A, B}
+use Rattle.rational.proofs.Rules.{times_zero}
 use Rattle.linear_systems.specs.Tableau.{Tableau}
 use Rattle.linear_systems.specs.Rows.{unit_at, HasDistinctVariables}
-use Rattle.linear_systems.proofs.RowLemmas.{unit_self, unit_other, times_zero}
+use Rattle.linear_systems.proofs.RowLemmas.{unit_self, unit_other}
 use Rattle.linear_systems.specs.Vertices.{IsZeroWord}
 
 -- the basic solution by the first rows alone

@@ -4,8 +4,8 @@ use Rattle.std.specs.List.{Contains}
 use Rattle.std.specs.List.Sorted.{IsStrictlyIncreasing}
 use Rattle.std.proofs.lemmas.List.{length-append}
 use Rattle.std.proofs.lemmas.List.Elements.{Contains-append_left, Contains-append_right, Contains-append_cases, Contains-get_or}
-use Rattle.lists.proofs.ElementLemmas.{index_of}
-use Rattle.lists.proofs.AscendingNumberLemmas.{first_in, in_cases, increasing_push}
+use Rattle.lists.proofs.ElementLemmas.{index_of, first_in, in_cases}
+use Rattle.lists.proofs.AscendingNumberLemmas.{increasing_push}
 use Rattle.basis_enum.specs.Merged.{IsMerged, TakesFirst}
 
 -- all has the first i numbers of xs and the first k of ys, which are below the others

@@ -7,7 +7,8 @@ use Rattle.linear_systems.proofs.LexRowLemmas.{lex_row_once}
 use Rattle.lex_tableau.specs.Ratio.{variable_at, IsLeavingRow}
 use Rattle.lex_tableau.specs.Rows.{WholeTableau, tableau, IsTableau}
 use Rattle.basis_enum.specs.Levels.{Levels, Pivot, no_tableau, parent_of, entering, target, IsPivot, IsEarlierPivot, AreNextPivots}
-use Rattle.lists.proofs.AscendingNumberLemmas.{increasing_same, unmapped, told_by}
+use Rattle.lists.proofs.AscendingNumberLemmas.{increasing_same, told_by}
+use Rattle.lists.proofs.ElementLemmas.{unmapped}
 
 pivot_same : (m k : Pivot) → m.parent ≡ k.parent → m.row ≡ k.row → m.column ≡ k.column → m ≡ k
 pivot_same m k p r c = ap₂ (λ x y. record { parent = x; row = y; column = m.column }) p r ∙ ap (λ x. record { parent = k.parent; row = k.row; column = x }) c

@@ -10,15 +10,11 @@ use Rattle.std.proofs.lemmas.List.Elements.{All-nil, All-cons, All-head, All-tai
 use Rattle.std.proofs.lemmas.List.Kept.{AllPairs-cons}
 use Rattle.std.proofs.lemmas.List.Sorted.{IsNonDecreasingBy-from_default}
 use Rattle.linear_systems.proofs.PivotLemmas.{eqb_same, eqb_apart}
-use Rattle.lists.proofs.AscendingNumberLemmas.{first_in, rest_in, in_cases}
+use Rattle.lists.proofs.ElementLemmas.{AllPairs-rest, first_in, rest_in, in_cases}
 
 -- the numbers of x and y are equal
 abbrev pub is_tie : {X : Type 0} → (X → ℕ) → X → X → Bool
 is_tie n x y = eqb (n x) (n y)
-
-tail_pairs : {X : Type 0} (R : X → X → Type 0) (x : X) (xs : List X) → AllPairs R (x ∷ xs)
-    → AllPairs R xs
-tail_pairs R x xs h = λ i j d k l. h (suc i) (suc j) d (omega arith) (omega arith)
 
 first_pairs : {X : Type 0} (R : X → X → Type 0) (x : X) (xs : List X) → AllPairs R (x ∷ xs)
     → All (R x) xs
@@ -36,10 +32,10 @@ ascends_from n x [] above pairs = (
 ascends_from {X = X} n x (y ∷ ys) above pairs = elim (cases_eq (n y) (n x)) [
   | inl e ↦ subst (λ b. Holds (cond b (dedup_from (is_tie n) x ys) (x ∷ dedup_from (is_tie n) y ys)))
       (sym (ap (λ a. eqb a (n x)) e ∙ eqb_same (n x)))
-      (ascends_from n x ys (All-tail (λ z. n x ≤ n z) y ys above) (tail_pairs (λ a b. n a ≤ n b) y ys pairs))
+      (ascends_from n x ys (All-tail (λ z. n x ≤ n z) y ys above) (AllPairs-rest (λ a b. n a ≤ n b) y ys pairs))
   | inr ne ↦ subst (λ b. Holds (cond b (dedup_from (is_tie n) x ys) (x ∷ dedup_from (is_tie n) y ys)))
       (sym (eqb_apart (n y) (n x) ne))
-      (apart ne (ascends_from n y ys (first_pairs (λ a b. n a ≤ n b) y ys pairs) (tail_pairs (λ a b. n a ≤ n b) y ys pairs)))
+      (apart ne (ascends_from n y ys (first_pairs (λ a b. n a ≤ n b) y ys pairs) (AllPairs-rest (λ a b. n a ≤ n b) y ys pairs)))
 ]
   where
     Holds : List X → Type 0
@@ -60,7 +56,7 @@ pub dedup_ascends : {X : Type 0} (n : X → ℕ) (xs : List X) → IsNonDecreasi
 dedup_ascends n [] h = λ i j d k l. absurd (omega arith)
 dedup_ascends {X = X} n (x ∷ xs) h =
     let pairs = λ (i j : ℕ) (d : X) (k : i < j) (l : j < length (x ∷ xs)). h i j d (omega arith) l in
-    (ascends_from n x xs (first_pairs (λ a b. n a ≤ n b) x xs pairs) (tail_pairs (λ a b. n a ≤ n b) x xs pairs)).0
+    (ascends_from n x xs (first_pairs (λ a b. n a ≤ n b) x xs pairs) (AllPairs-rest (λ a b. n a ≤ n b) x xs pairs)).0
 
 -- ---- each number is still there, at an item that does not rank later
 kept_from : {X : Type 0} (n r : X → ℕ) (x : X) (xs : List X) (z : X) → All (λ y. r x ≤ r y) xs
@@ -73,10 +69,10 @@ kept_from n r x [] z above pairs c = elim (in_cases x z [] c) [
 kept_from {X = X} n r x (y ∷ ys) z above pairs c = elim (cases_eq (n y) (n x)) [
   | inl e ↦ subst (λ b. Kept (cond b (dedup_from (is_tie n) x ys) (x ∷ dedup_from (is_tie n) y ys)))
       (sym (ap (λ a. eqb a (n x)) e ∙ eqb_same (n x)))
-      (tie e (in_cases x z (y ∷ ys) c) (λ v. kept_from n r x ys v (All-tail (λ a. r x ≤ r a) y ys above) (tail_pairs (λ a b. r a ≤ r b) y ys pairs)))
+      (tie e (in_cases x z (y ∷ ys) c) (λ v. kept_from n r x ys v (All-tail (λ a. r x ≤ r a) y ys above) (AllPairs-rest (λ a b. r a ≤ r b) y ys pairs)))
   | inr ne ↦ subst (λ b. Kept (cond b (dedup_from (is_tie n) x ys) (x ∷ dedup_from (is_tie n) y ys)))
       (sym (eqb_apart (n y) (n x) ne))
-      (apart (in_cases x z (y ∷ ys) c) (kept_from n r y ys z (first_pairs (λ a b. r a ≤ r b) y ys pairs) (tail_pairs (λ a b. r a ≤ r b) y ys pairs)))
+      (apart (in_cases x z (y ∷ ys) c) (kept_from n r y ys z (first_pairs (λ a b. r a ≤ r b) y ys pairs) (AllPairs-rest (λ a b. r a ≤ r b) y ys pairs)))
 ]
   where
     Kept : List X → Type 0
@@ -102,7 +98,7 @@ pub dedup_keeps : {X : Type 0} (n r : X → ℕ) (xs : List X) (z : X) → IsNon
 dedup_keeps n r [] z h c = absurd (omega (arith, c.1))
 dedup_keeps {X = X} n r (x ∷ xs) z h c =
     let pairs = λ (i j : ℕ) (d : X) (k : i < j) (l : j < length (x ∷ xs)). h i j d (omega arith) l in
-    kept_from n r x xs z (first_pairs (λ a b. r a ≤ r b) x xs pairs) (tail_pairs (λ a b. r a ≤ r b) x xs pairs) c
+    kept_from n r x xs z (first_pairs (λ a b. r a ≤ r b) x xs pairs) (AllPairs-rest (λ a b. r a ≤ r b) x xs pairs) c
 
 -- ---- under a function that the numbers go through
 map_from : {X Y : Type 0} (f : X → Y) (n : Y → ℕ) (x : X) (xs : List X)

@@ -9,6 +9,7 @@ use Rattle.std.proofs.lemmas.List.Elements.{Contains-append_left, Contains-appen
 use Rattle.std.proofs.Math.ListN.{get_or-map}
 use Rattle.answers.specs.Answers.{Gives, such_that}
 use Rattle.answers.proofs.AnswerLemmas.{gives_first}
+use Rattle.lists.proofs.ElementLemmas.{unmapped}
 use Rattle.linear_systems.specs.Vertices.{AreVertices}
 use Rattle.lex_tableau.specs.Rows.{WholeTableau}
 use Rattle.lex_tableau.specs.Starts.{LinearSystem, IsSystem, system_of}
@@ -20,7 +21,6 @@ use Rattle.basis_enum.specs.Levels.{Levels, IsPivot, AreNextPivots, bases_of, ba
 use Rattle.basis_enum.specs.Systems.{IsEnumerable, variable_count}
 use Rattle.basis_enum.specs.Reached.{bases_within, level_of, next_level, next_pivots, reached_in, told_start}
 use Rattle.basis_enum.proofs.CompleteLevelLaws.{Held, held_start, held_child, held_digits, level_held, pivoted_nonbasics}
-use Rattle.lists.proofs.AscendingNumberLemmas.{unmapped}
 use Rattle.basis_enum.proofs.LevelLemmas.{level_few, level_many}
 use Rattle.basis_enum.specs.declared.found_pivots.FoundPivot.{FoundPivot}
 use Rattle.basis_enum.specs.declared.stop.EnumStop.{EnumStop}

@@ -3,7 +3,7 @@ use Rattle.std.proofs.Common.{ℕ, ◌+◌, ◌-◌, ◌<◌, ◌≤◌, ◌≡�
 use Rattle.std.specs.List.{flat_map}
 use Rattle.std.proofs.lemmas.Bool.{cases_eq}
 use Rattle.std.proofs.lemmas.Grind.{flat_map-append}
-use Rattle.std.proofs.lemmas.List.{append-nil, length-append, length-set, get_or_append_left, get_or-append-add, get_or-set_same, get_or-set_other}
+use Rattle.std.proofs.lemmas.List.{append-nil, length-append, length-set, get_or-append-add, get_or-set_same, get_or-set_other}
 use Rattle.std.proofs.lemmas.Option.{slice_get-get_or, slice_get_within, get_or_from_slice_get}
 use Rattle.rational.specs.Rational.{ℚ, zero_ℚ}
 use Rattle.game_theory.specs.Lines.{listed}
@@ -13,14 +13,8 @@ use Rattle.game_theory.specs.Behaviour.{Behaviour}
 use Rattle.game_theory.specs.TreeEntries.{own_entries, entries_below, tree_entries}
 use Rattle.game_theory.specs.OwnSets.{numbers_with}
 use Rattle.game_theory.proofs.IndexLemmas.{numbers_with-last, numbers_with-other}
-use Rattle.lists.proofs.ElementLemmas.{made-next}
+use Rattle.lists.proofs.ElementLemmas.{made-next, slice_get-longer}
 use Rattle.behaviour_profile.specs.EntryStarts.{AreStarts, AreStartsTo, ComesTo, entries_to}
-
--- what stands in a list stands there before further ones
-found-left : (xs ys : List ℚ) (k : ℕ) (v : ℚ) → slice_get xs k ≡ Some v → slice_get (xs ++ ys) k ≡ Some v
-found-left xs ys k v at =
-    let l = slice_get_within xs k v at in
-    slice_get-get_or (xs ++ ys) k zero_ℚ (omega (arith, length-append xs ys)) ∙ ap Some (get_or_append_left xs ys zero_ℚ k l ∙ get_or_from_slice_get xs k v zero_ℚ at)
 
 -- and after a list, one further
 found-right : (xs : List ℚ) (n : ℕ) (f : ℕ → ℚ) (a : ℕ) → a < n → slice_get (xs ++ listed n f) (length xs + a) ≡ Some (f a)
@@ -55,7 +49,7 @@ module _ (t : Tree) (i n : ℕ) (starts : List ℕ) (next : ℕ) (h : AreStartsT
       there : (b : Behaviour) (s j a : ℕ) → s < t.sets → t.owner s ≡ Some j → a < t.actions s → ComesTo i (n + 1) j s → s ≢ n → slice_get (entries_to t b i n ++ listed (t.actions n) (b n)) (get_or (set starts n next) s 0 + a) ≡ Some (b s a)
       there b s j a k own m comes apart =
           ap (λ x. slice_get (entries_to t b i n ++ listed (t.actions n) (b n)) (x + a)) (get_or-set_other starts n s next 0 apart)
-          ∙ found-left (entries_to t b i n) _ (get_or starts s 0 + a) (b s a) (h.stand b s j a k own (elim comes [ inl earlier ↦ inl earlier | inr now ↦ inr (now.0, omega (arith, now.1)) ]) m)
+          ∙ slice_get-longer (entries_to t b i n) _ (get_or starts s 0 + a) (b s a) (h.stand b s j a k own (elim comes [ inl earlier ↦ inl earlier | inr now ↦ inr (now.0, omega (arith, now.1)) ]) m)
 
   -- at another set there is none
   pub starts-other : t.owner n ≢ Some i → AreStartsTo t i (n + 1) starts next

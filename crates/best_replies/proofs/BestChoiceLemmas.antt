@@ -10,8 +10,9 @@ use Rattle.rational.proofs.Linear.{linear, at, lit, minus, ◌⟨-⟩◌, ◌⟨
 use Rattle.rational.proofs.SumLemmas.{sum_to-same, sum_to-zeros, sum_to-zero, sum_to-scale, sum_to-sub, sum_to-le, sum_to-single}
 use Rattle.rational.proofs.MeanLemmas.{mean_le}
 use Rattle.rational.proofs.Ring.{ring, num, ◌:*◌, ◌:-◌, :neg, A, B, C, D, E}
+use Rattle.rational.proofs.InverseLemmas.{zero_le_one}
 use Rattle.game_theory.specs.Mixed.{sure}
-use Rattle.game_theory.proofs.SureStrategyLemmas.{zero_le_one, sure-not_negative, sum_to-sure}
+use Rattle.game_theory.proofs.SureStrategyLemmas.{sure-not_negative, sum_to-sure}
 use Rattle.game_theory.specs.Trees.{Tree, IsTree}
 use Rattle.game_theory.specs.Behaviour.{Behaviour, branch_probability, value, payoff, IsChoice, reply}
 use Rattle.game_theory.specs.Recall.{own_history, HasPerfectRecall}

@@ -1,12 +1,12 @@
 -- Sums over the nodes of a tree.
-use Rattle.std.proofs.Common.{ℕ, zero, suc, ◌<◌, ◌≡◌, ◌≢◌, Bool, true, false, eqb, cond, Decides, Some, [], ◌∷◌, refl, sym, ap, ◌∙◌, arith}
+use Rattle.std.proofs.Common.{ℕ, zero, suc, ◌<◌, ◌≡◌, Bool, true, false, Decides, Some, [], ◌∷◌, refl, sym, ap, ◌∙◌, arith}
 use Rattle.std.specs.Prelude.{◌==◌, ◌&&◌, nat_lt}
 use Rattle.std.proofs.lemmas.Bool.Decides.{Decides-and, Decides-eqb, Decides-ltb}
-use Rattle.rational.specs.Rational.{ℚ, ◌+ℚ◌, ◌*ℚ◌, zero_ℚ, one_ℚ}
+use Rattle.rational.specs.Rational.{ℚ, ◌+ℚ◌, ◌*ℚ◌, zero_ℚ}
 use Rattle.rational.specs.Sum.{sum_to}
 use Rattle.rational.proofs.RationalRing.{rational_ring, +ℚ-zero}
-use Rattle.rational.proofs.Rules.{one-*ℚ, zero-*ℚ, *ℚ-zero}
-use Rattle.rational.proofs.SumLemmas.{sum_to-same, sum_to-zeros, sum_to-single, sum_to-exchange, sum_to-scale, sum_to-add}
+use Rattle.rational.proofs.Rules.{*ℚ-zero}
+use Rattle.rational.proofs.SumLemmas.{sum_to-same, sum_to-zeros, sum_to-exchange, sum_to-scale, sum_to-add, sum_to-only}
 use Rattle.rational.proofs.Ring.{ring, num, ◌:+◌, A, B, C}
 use Rattle.game_theory.specs.Trees.{Tree, IsTree}
 use Rattle.game_theory.specs.Behaviour.{is_parent}
@@ -44,14 +44,6 @@ where_true-scale false c x = sym (*ℚ-zero c)
 where_true-add : (b : Bool) (x y : ℚ) → where_true b (x +ℚ y) ≡ where_true b x +ℚ where_true b y
 where_true-add true x y = refl
 where_true-add false x y = sym (+ℚ-zero zero_ℚ)
-
--- a sum in which only one term counts
-pub sum_to-only : (n c : ℕ) (f : ℕ → ℚ) → c < n → ((j : ℕ) → j < n → j ≢ c → f j ≡ zero_ℚ) → sum_to n f ≡ f c
-sum_to-only n c f h others = sum_to-same n f _ (λ j l. term j l (eqb j c) (Decides-eqb j c)) ∙ sum_to-single n c f h
-  where
-    term : (j : ℕ) → j < n → (b : Bool) → Decides b (j ≡ c) → f j ≡ cond b one_ℚ zero_ℚ *ℚ f j
-    term j l true d = sym (one-*ℚ (f j))
-    term j l false d = others j l (λ e. let q : false ≡ true = d.1 e in cc) ∙ sym (zero-*ℚ (f j))
 
 -- a factor of a sum over the numbers that pass a test
 pub tested_sum-scale : (n : ℕ) (test : ℕ → Bool) (c : ℚ) (f : ℕ → ℚ) → c *ℚ sum_to n (λ x. where_true (test x) (f x)) ≡ sum_to n (λ x. where_true (test x) (c *ℚ f x))

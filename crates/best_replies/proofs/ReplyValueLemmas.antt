@@ -6,7 +6,7 @@ use Rattle.rational.specs.Rational.{ℚ, ◌+ℚ◌, ◌*ℚ◌, zero_ℚ}
 use Rattle.rational.specs.Sum.{sum_to}
 use Rattle.rational.proofs.RationalRing.{rational_ring, *ℚ-add}
 use Rattle.rational.proofs.Rules.{one-*ℚ, zero-*ℚ}
-use Rattle.rational.proofs.SumLemmas.{sum_to-same, sum_to-zero, sum_to-zeros, sum_to-exchange, sum_to-scale, sum_to-single}
+use Rattle.rational.proofs.SumLemmas.{sum_to-same, sum_to-zero, sum_to-zeros, sum_to-exchange, sum_to-scale, sum_to-single, sum_to-only}
 use Rattle.rational.proofs.Ring.{ring, ◌:*◌, A, B, C}
 use Rattle.game_theory.specs.Mixed.{sure}
 use Rattle.game_theory.proofs.SureStrategyLemmas.{sure-at, sure-other}
@@ -19,7 +19,7 @@ use Rattle.game_theory.proofs.OwnSetLemmas.{is_index-decides}
 use Rattle.best_replies.specs.Reaching.{weight}
 use Rattle.best_replies.specs.Replies.{reply_value, is_member, follows}
 use Rattle.best_replies.specs.Laws.{ReplyValuesRecur, RootReplyValueIsPayoff, ActionValuesByMembers, ReplyValuesDependOnSubtrees}
-use Rattle.best_replies.proofs.NodeSumLemmas.{where_true-yes, where_true-zero, where_true-same, sum_to-only, follows-decides}
+use Rattle.best_replies.proofs.NodeSumLemmas.{where_true-yes, where_true-zero, where_true-same, follows-decides}
 use Rattle.best_replies.proofs.WeightLemmas.{own_or_not, if_own, if_other, branch-own, branch-other, reply-alike, step-to, weight-own, weight-other}
 
 -- what a reply pays is the root's reply value

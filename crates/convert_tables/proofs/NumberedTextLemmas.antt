@@ -1,32 +1,20 @@
 -- What is written for each number from 0 on.
-use Rattle.std.proofs.Common.{ℕ, zero, suc, ◌+◌, ◌-◌, ◌<◌, ◌≤◌, ◌≡◌, List, ◌∷◌, [], ◌++◌, length, map, refl, sym, ap, ap₂, ◌∙◌, subst, append_assoc, length-append, arith}
+use Rattle.std.proofs.Common.{ℕ, zero, suc, ◌+◌, ◌-◌, ◌<◌, ◌≤◌, ◌≡◌, List, ◌++◌, length, refl, sym, ap, ◌∙◌, subst, append_assoc, length-append, arith, add-one}
 use Rattle.std.specs.List.{flat_map, range_with_len}
-use Rattle.std.proofs.lemmas.List.{append-nil}
-use Rattle.std.proofs.lemmas.List.FromFn.{map-range_with_len_more}
-use Rattle.std.proofs.lemmas.List.Folds.{flat_map-map}
-use Rattle.std.proofs.lemmas.Grind.{flat_map-append}
+use Rattle.lists.proofs.ElementLemmas.{made-next, made-same}
 
--- one more number
-each_more : (f : ℕ → List ℕ) (n : ℕ) → flat_map f (range_with_len 0 (n + 1)) ≡ flat_map f (range_with_len 0 n) ++ f n
-each_more f n =
-    sym (flat_map-map (λ (text : List ℕ). text) f (range_with_len 0 (n + 1)))
-    ∙ ap (flat_map (λ (text : List ℕ). text)) (map-range_with_len_more f 0 n n (omega arith))
-    ∙ flat_map-append (λ (text : List ℕ). text) (map f (range_with_len 0 n)) (f n ∷ [])
-    ∙ ap₂ (λ a b. a ++ b) (flat_map-map (λ (text : List ℕ). text) f (range_with_len 0 n)) (append-nil (f n))
+-- what is written for one more number
+one_more : (f : ℕ → List ℕ) (n : ℕ) → flat_map f (range_with_len 0 (n + 1)) ≡ flat_map f (range_with_len 0 n) ++ f n
+one_more f n = ap (λ k. flat_map f (range_with_len 0 k)) (add-one n) ∙ made-next f n
 
 -- a text that grows by what is written for the next number
 pub each-next : (f : ℕ → List ℕ) (old loop new : List ℕ) (n : ℕ) → loop ≡ old ++ flat_map f (range_with_len 0 n) → new ≡ loop ++ f n → new ≡ old ++ flat_map f (range_with_len 0 (n + 1))
 each-next f old loop new n h k =
-    k ∙ ap (λ v. v ++ f n) h ∙ append_assoc old (flat_map f (range_with_len 0 n)) (f n) ∙ ap (λ v. old ++ v) (sym (each_more f n))
-
-each_same-from : (f g : ℕ → List ℕ) (a n : ℕ) → ((k : ℕ) → a ≤ k → k < a + n → f k ≡ g k) → flat_map f (range_with_len a n) ≡ flat_map g (range_with_len a n)
-each_same-from f g a zero h = refl
-each_same-from f g a (suc n) h =
-    ap₂ (λ v w. v ++ w) (h a (omega arith) (omega arith)) (each_same-from f g (a + 1) n (λ k l b. h k (omega arith) (omega arith)))
+    k ∙ ap (λ v. v ++ f n) h ∙ append_assoc old (flat_map f (range_with_len 0 n)) (f n) ∙ ap (λ v. old ++ v) (sym (one_more f n))
 
 -- the same written for each number
 pub each-same : (f g : ℕ → List ℕ) (n : ℕ) → ((k : ℕ) → k < n → f k ≡ g k) → flat_map f (range_with_len 0 n) ≡ flat_map g (range_with_len 0 n)
-each-same f g n h = each_same-from f g 0 n (λ k l b. h k (omega arith))
+each-same f g n h = made-same f g 0 n (λ k l b. h k (omega arith))
 
 each_long-by : (f : ℕ → List ℕ) (k n d : ℕ) → n ≡ k + d → length (flat_map f (range_with_len 0 k)) ≤ length (flat_map f (range_with_len 0 n))
 each_long-by f k n zero e =
@@ -34,7 +22,7 @@ each_long-by f k n zero e =
     subst (λ v. length (flat_map f (range_with_len 0 k)) ≤ length (flat_map f (range_with_len 0 v))) (sym same) (omega arith)
 each_long-by f k n (suc d) e =
     let next : n ≡ (k + d) + 1 = omega arith in
-    let long : length (flat_map f (range_with_len 0 (k + d + 1))) ≡ length (flat_map f (range_with_len 0 (k + d))) + length (f (k + d)) = ap length (each_more f (k + d)) ∙ length-append (flat_map f (range_with_len 0 (k + d))) (f (k + d)) in
+    let long : length (flat_map f (range_with_len 0 (k + d + 1))) ≡ length (flat_map f (range_with_len 0 (k + d))) + length (f (k + d)) = ap length (one_more f (k + d)) ∙ length-append (flat_map f (range_with_len 0 (k + d))) (f (k + d)) in
     subst (λ v. length (flat_map f (range_with_len 0 k)) ≤ length (flat_map f (range_with_len 0 v))) (sym next) (omega (arith, each_long-by f k (k + d) d refl))
 
 -- a text that is too long for the first numbers is so for all

@@ -5,6 +5,7 @@ use Rattle.std.proofs.lemmas.List.{reverse-append, map-append}
 use Rattle.std.proofs.lemmas.List.Elements.{All-nil, All-cons}
 use Rattle.std.specs.Prelude.{All}
 use Rattle.std.specs.List.{AllByRecursion}
+use Rattle.lists.proofs.ElementLemmas.{All-parts}
 use Rattle.game_core.specs.declared.too_large.What.{What}
 use Rattle.game_core.specs.declared.too_large.What.TheVariants.{Nodes, Depth}
 use Rattle.game_core.specs.declared.tree.Kind.{Kind}
@@ -61,17 +62,12 @@ place_taken kept last taken goes_on e t g lt =
     subst (λ (start : List Branching). HasTaken start (Some taken) (branchings_of (slice_set kept last (with_next goes_on)))) (sym start)
     (ap branching_of one, after ∙ ap (λ (b : Kept). branching_of (with_next b) ∷ branchings_of h.front) other ∙ sym next)
 
--- what holds of each of two lists in turn
-both_lists : (P : Branching → Type 0) (xs ys : List Branching) → AllByRecursion P (xs ++ ys) → AllByRecursion P xs × AllByRecursion P ys
-both_lists P [] ys h = (tt, h)
-both_lists P (x ∷ xs) ys h = let more = both_lists P xs ys h.1 in ((h.0, more.0), more.1)
-
 -- what holds of each branching holds of each one that is kept
 pub each_kept : (P : Branching → Type 0) (kept : List Kept) → AllByRecursion P (branchings_of kept) → All (λ b. P (branching_of b)) kept
 each_kept P [] h = All-nil (λ b. P (branching_of b))
 each_kept P (one ∷ kept) h =
     let turned : branchings_of (one ∷ kept) ≡ branchings_of kept ++ branching_of one ∷ [] = reverse-append (branching_of one ∷ []) (map branching_of kept) in
-    let parts = both_lists P (branchings_of kept) (branching_of one ∷ []) (subst (AllByRecursion P) turned h) in
+    let parts = All-parts P (branchings_of kept) (branching_of one ∷ []) (subst (AllByRecursion P) turned h) in
     All-cons (λ b. P (branching_of b)) one kept parts.1.0 (each_kept P kept parts.0)
 
 -- ---- near branchings

@@ -8,10 +8,10 @@ use Rattle.std.proofs.lemmas.Map.Keys.{IsDistinct-IsPermutation, apart_from_dist
 abbrev pair_eq : ℕ × ℕ → ℕ × ℕ → Bool
 pair_eq p q = nat_eq p.0 q.0 && nat_eq p.1 q.1
 
-parts_out : (a b c d : ℕ) → nat_eq a c && nat_eq b d ≡ true → (a ≡ c) × (b ≡ d)
+pub parts_out : (a b c d : ℕ) → nat_eq a c && nat_eq b d ≡ true → (a ≡ c) × (b ≡ d)
 parts_out a b c d e = grind (arith, tests)
 
-parts_in : (a b c d : ℕ) → a ≡ c → b ≡ d → nat_eq a c && nat_eq b d ≡ true
+pub parts_in : (a b c d : ℕ) → a ≡ c → b ≡ d → nat_eq a c && nat_eq b d ≡ true
 parts_in a b c d e f = grind (arith, tests)
 
 decided : (p q : ℕ × ℕ) → Decides (pair_eq p q) (p ≡ q)

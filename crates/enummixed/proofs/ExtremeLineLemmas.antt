@@ -1,5 +1,5 @@
 -- The lines of the pairs of the vertices of a game's two systems, in order, are those of its extreme equilibria
-use Rattle.std.proofs.Common.{ℕ, suc, ◌+◌, ◌<◌, ◌≡◌, ◌≢◌, inl, inr, Bool, true, false, cond, nat_eq, ◌&&◌, List, [], ◌∷◌, ◌++◌, length, length-append, map, get_or, refl, sym, ap, ap₂, ◌∙◌, subst, arith, tests}
+use Rattle.std.proofs.Common.{ℕ, suc, ◌+◌, ◌<◌, ◌≡◌, ◌≢◌, inl, inr, Bool, true, false, cond, nat_eq, List, [], ◌∷◌, ◌++◌, length, length-append, map, get_or, refl, sym, ap, ap₂, ◌∙◌, subst, arith, tests}
 use Rattle.std.specs.Prelude.{Contains, IsPermutation, IsSortedBy}
 use Rattle.std.specs.List.{AllPairs}
 use Rattle.std.specs.Ordering.{is_lt}
@@ -10,6 +10,7 @@ use Rattle.std.proofs.lemmas.List.Elements.{Contains-get_or}
 use Rattle.std.proofs.lemmas.List.Folds.{list_any_at}
 use Rattle.std.proofs.lemmas.List.FromFn.{get_or-map-range_with_len, length-map-range_with_len}
 use Rattle.std.proofs.lemmas.List.Sorted.{Contains-permutation, IsPermutation-sym}
+use Rattle.lists.proofs.ElementLemmas.{mapped, unmapped}
 use Rattle.rational.specs.Rational.{ℚ, ◌≤ℚ◌, zero_ℚ}
 use Rattle.linear_systems.specs.Tableau.{Tableau}
 use Rattle.linear_systems.specs.Reached.{in_column}
@@ -25,7 +26,6 @@ use Rattle.extreme_equilibria.specs.TwoPlayers.{pays_against}
 use Rattle.extreme_equilibria.specs.Bimatrix.{shifted, shift_of, IsBelowAll}
 use Rattle.extreme_equilibria.specs.Systems.{first_system, second_system}
 use Rattle.extreme_equilibria.specs.PairLines.{scaled_point, HaveAllLabels, pair_line, IsPairLine, ArePairLines}
-use Rattle.extreme_equilibria.proofs.MappedListLemmas.{from-map, into-map}
 use Rattle.extreme_equilibria.proofs.PairLineLemmas.{pair_lines_are_extreme_equilibria, listed_vertices_scale_differently}
 use Rattle.lex_tableau.specs.Starts.{LinearSystem, system_of}
 use Rattle.reply_polytope.proofs.EnumerableLemmas.{first_count, second_count}
@@ -39,24 +39,17 @@ use Rattle.label_pairing.proofs.AllPairLemmas.{exactly_those, pairs_once}
 use Rattle.enummixed.specs.Order.{line_of, pair_order}
 use Rattle.enummixed.specs.Used.{all_labels, occurs, scaled_used}
 use Rattle.enummixed.proofs.LineOrderLemmas.{before-ordered}
-use Rattle.enummixed.proofs.DistinctListLemmas.{neighbours-differ}
+use Rattle.enummixed.proofs.DistinctListLemmas.{neighbours-differ, parts_in, parts_out}
 
 abbrev none : MarkedPoint
 none = record { low = 0; high = 0; point = [] }
 
--- both words are equal where the test says so
-words_out : (a b c d : ℕ) → nat_eq a b && nat_eq c d ≡ true → (a ≡ b) × (c ≡ d)
-words_out a b c d e = grind (arith, tests)
-
-words_in : (a b c d : ℕ) → a ≡ b → c ≡ d → nat_eq a b && nat_eq c d ≡ true
-words_in a b c d e f = grind (arith, tests)
-
 -- the test tells whether two marks together have all labels
 labels_out : (n : ℕ) (one two : MarkedPoint) → are_together (all_labels n) one two ≡ true → HaveAllLabels n one two
-labels_out n one two e = let w = words_out _ _ _ _ e in record { low = w.0; high = w.1 }
+labels_out n one two e = let w = parts_out _ _ _ _ e in record { low = w.0; high = w.1 }
 
 labels_in : (n : ℕ) (one two : MarkedPoint) → HaveAllLabels n one two → are_together (all_labels n) one two ≡ true
-labels_in n one two h = words_in _ _ _ _ h.low h.high
+labels_in n one two h = parts_in _ _ _ _ h.low h.high
 
 -- two lists that begin with equally many entries
 split : (a b c d : List ℚ) → length a ≡ length c → a ++ b ≡ c ++ d → (a ≡ c) × (b ≡ d)
@@ -186,7 +179,7 @@ module _ (n : ℕ) (t u : Tableau) (first second : List MarkedPoint) (vf : AreVe
           | inr (inr b) ↦ absurd (not_less (pair_order firsts seconds q p) (before-ordered (get_or firsts q.0 []) (get_or seconds q.1 []) (get_or firsts p.0 []) (get_or seconds p.1 []) (sym lengths) b) (ordered j d (omega arith) l))
         ]
 
-    sound-at : (z : List ℚ) → (p : ℕ × ℕ) × Contains sorted p × (z ≡ line p) → IsPairLine n first second z
+    sound-at : (z : List ℚ) → (p : ℕ × ℕ) × Contains sorted p × (line p ≡ z) → IsPairLine n first second z
     sound-at z r =
         let c = sorted-in r.0 r.1 in
         let h = pair-is r.0 c in
@@ -196,7 +189,7 @@ module _ (n : ℕ) (t u : Tableau) (first second : List MarkedPoint) (vf : AreVe
           is_first = Contains-get_or first r.0.0 none h.in_first;
           is_second = Contains-get_or second r.0.1 none h.in_second;
           labels = labels_out n (mark_at first r.0.0) (mark_at second r.0.1) h.together;
-          is_line = r.2 ∙ line-is r.0 c;
+          is_line = sym r.2 ∙ line-is r.0 c;
         }
 
     complete-at : (one two : MarkedPoint) → Contains first one → Contains second two → HaveAllLabels n one two → Contains (map line sorted) (pair_line one two)
@@ -205,14 +198,14 @@ module _ (n : ℕ) (t u : Tableau) (first second : List MarkedPoint) (vf : AreVe
         let at' : mark_at second j ≡ two = get_or_default second j none two l ∙ f in
         let marks : HaveAllLabels n (mark_at first i) (mark_at second j) = subst (λ x. HaveAllLabels n x (mark_at second j)) (sym at) (subst (λ y. HaveAllLabels n one y) (sym at') labels) in
         let c : Contains {X = ℕ × ℕ} pairs (i, j) = subst (λ ps. Contains {X = ℕ × ℕ} ps (i, j)) (sym all) ((exactly_those.exactly (all_labels n) first second i j).1 (record { in_first = h; in_second = l; together = labels_in n (mark_at first i) (mark_at second j) marks })) in
-        subst (λ z. Contains (map line sorted) z) (line-is (i, j) c ∙ ap₂ pair_line at at') (into-map line sorted (i, j) (Contains-permutation pairs sorted (i, j) permuted c))
+        subst (λ z. Contains (map line sorted) z) (line-is (i, j) c ∙ ap₂ pair_line at at') (mapped line (i, j) sorted (Contains-permutation pairs sorted (i, j) permuted c))
 
     -- the lines
     pub pair-lines : ArePairLines n first second (map (line_of firsts seconds) sorted)
     unfolding line
     pair-lines = record {
       in_order = in-order line sorted neighbours;
-      sound = λ j d l. sound-at (get_or (map line sorted) j d) (from-map line sorted (get_or (map line sorted) j d) (Contains-get_or (map line sorted) j d l));
+      sound = λ j d l. sound-at (get_or (map line sorted) j d) (unmapped line (get_or (map line sorted) j d) sorted (Contains-get_or (map line sorted) j d l));
       complete = complete-at;
     }
 

@@ -21,12 +21,9 @@ zero_less n = grind (arith, tests)
 greater_zero : (n : ℕ) → nat_cmp (suc n) 0 ≡ Greater
 greater_zero n = grind (arith, tests)
 
-equal : (a b : ℕ) → a ≡ b → nat_cmp a b ≡ Equal
-equal a b h = grind (arith, tests)
-
 -- where one list ends the lengths decide
 pub ended : (R : ℚ → ℚ → Ordering) (xs ys : List ℚ) (k : ℕ) → k ≤ length xs → k ≤ length ys → (length xs ≤ k) ⊎ (length ys ≤ k) → nat_cmp (length xs) (length ys) ≡ slice_cmp R (drop k xs) (drop k ys)
-ended R [] [] zero h g e = equal 0 0 refl
+ended R [] [] zero h g e = refl
 ended R [] (y ∷ ys) zero h g e = zero_less (length ys)
 ended R (x ∷ xs) [] zero h g e = greater_zero (length xs)
 ended R (x ∷ xs) (y ∷ ys) zero h g (inl e) = absurd (omega (arith, e))

@@ -13,12 +13,12 @@ use Rattle.frac128.specs.Steps.{Step, IsFirstUnfit}
 use Rattle.frac128.specs.FirstUnfit.{StepsFit, IsFirstUnfitOf}
 use Rattle.label_pairing.specs.Pairs.{mark_at}
 use Rattle.label_pairing.specs.Scaling.{scale_steps}
-use Rattle.label_pairing.proofs.RowLemmas.{range_more}
 use Rattle.label_pairing.proofs.StopLemmas.{scaled_not_memory, scaled_unfit}
 use Rattle.label_pairing.specs.Stops.{scaled_in}
 use Rattle.label_pairing.specs.declared.scaling.ScaleStop.{ScaleStop}
 use Rattle.label_pairing.specs.declared.scaling.ScaleStop.TheVariants as stops
 use Rattle.answers.specs.Answers.{Gives}
+use Rattle.lists.proofs.ElementLemmas.{range_more}
 use Rattle.enummixed.specs.Used.{used_points, scaled_used, scaling_in, occurs, is_set}
 
 -- the point of a vertex that is read

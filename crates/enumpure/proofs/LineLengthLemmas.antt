@@ -6,13 +6,12 @@ use Rattle.std.proofs.lemmas.Grind.{flat_map-append}
 use Rattle.std.proofs.lemmas.List.{take_all}
 use Rattle.std.proofs.lemmas.List.Sums.{sum_by-cons, sum_by-take-le}
 use Rattle.std.proofs.Math.Nat.{mul-le-mul, mul-le-mul_left}
-use Rattle.std.specs.Fmt.{digits}
-use Rattle.rational.specs.Gcd.{gcd}
-use Rattle.rational.specs.Rational.{ℚ, is_lowest, frac, zero_ℚ, one_ℚ}
+use Rattle.rational.specs.Rational.{ℚ}
 use Rattle.game_theory.specs.Profiles.{profile_count}
 use Rattle.game_theory.specs.Mixed.{Mixed, later, sure, pure}
-use Rattle.game_theory.specs.Lines.{listed, entries, number_text, line_text, lines_text}
+use Rattle.game_theory.specs.Lines.{listed, entries, line_text, lines_text}
 use Rattle.game_theory.proofs.SureStrategyLemmas.{sure-at, sure-other}
+use Rattle.game_theory.proofs.LineTextLemmas.{one-text, zero-text}
 use Rattle.game_core.specs.Table.{most_payoffs}
 use Rattle.ne_printer.specs.Entries.{entry_text, entries_text}
 use Rattle.ne_printer.proofs.LineTextLemmas.{line_text-joined}
@@ -22,23 +21,13 @@ use Rattle.enumpure.specs.Replies.{plays_best}
 use Rattle.game_core.proofs.StrideLemmas.{HaveStrategies, HaveStrategies-later, profile_count-positive}
 use Rattle.enumpure.proofs.TotalLemmas.{total, one_if, total-ranked, total-best_replies}
 
--- the text of 1
-number_text-one : number_text one_ℚ ≡ 49 ∷ []
-unfolding frac gcd is_lowest digits
-number_text-one = refl
-
--- the text of 0
-number_text-zero : number_text zero_ℚ ≡ 48 ∷ []
-unfolding frac gcd is_lowest digits
-number_text-zero = refl
-
 -- an entry of a pure profile is a comma and a digit
 length-entry_text : (s t : ℕ) → length (entry_text (sure s t)) ≡ 2
 length-entry_text s t = go (cases_eq t s)
   where
     go : (t ≡ s) ⊎ (t ≢ s) → length (entry_text (sure s t)) ≡ 2
-    go (inl e) = ap (λ q. length (entry_text q)) (ap (sure s) e ∙ sure-at s) ∙ ap (λ v. length (44 ∷ v)) number_text-one
-    go (inr e) = ap (λ q. length (entry_text q)) (sure-other s t e) ∙ ap (λ v. length (44 ∷ v)) number_text-zero
+    go (inl e) = ap (λ q. length (entry_text q)) (ap (sure s) e ∙ sure-at s) ∙ ap (λ v. length (44 ∷ v)) one-text
+    go (inr e) = ap (λ q. length (entry_text q)) (sure-other s t e) ∙ ap (λ v. length (44 ∷ v)) zero-text
 
 -- n entries of two bytes each
 length-listed : (n : ℕ) (f : ℕ → ℚ) → ((s : ℕ) → length (entry_text (f s)) ≡ 2) → length (entries_text (listed n f)) ≡ 2 * n

@@ -5,22 +5,18 @@ use Rattle.std.proofs.lemmas.Bool.{cases_lt}
 use Rattle.std.proofs.lemmas.Grind.{flat_map-append}
 use Rattle.std.proofs.lemmas.List.{append-nil, map-append}
 use Rattle.std.proofs.lemmas.List.Elements.{All-push, Contains-append_left, Contains-push, filter-append}
+use Rattle.lists.proofs.ElementLemmas.{range-last}
 use Rattle.rational.specs.Rational.{ℚ}
 use Rattle.game_theory.specs.Lines.{StandsBefore, AreInOrder, line_text, lines_text}
 use Rattle.game_theory.proofs.LineOrderLemmas.{AreInOrder-push}
 use Rattle.enumpure.specs.Ranks.{listed_below}
 use Rattle.enumpure.proofs.TotalLemmas.{total, one_if}
 
--- one number more
-range_more : (a n j : ℕ) → a + n ≡ j → range_with_len a (suc n) ≡ range_with_len a n ++ j ∷ []
-range_more a zero j e = ap (λ x. x ∷ []) (omega (arith, e))
-range_more a (suc n) j e = ap (λ v. a ∷ v) (range_more (a + 1) n j (omega (arith, e)))
-
 module _ (line : ℕ → List ℚ) (passes : ℕ → Bool) where
   -- the last line is listed where it passes
   listed_below-more : (r : ℕ) → listed_below line passes (suc r) ≡ listed_below line passes r ++ cond (passes r) (line r ∷ []) []
   listed_below-more r =
-      ap (λ v. map line (filter passes v)) (range_more 0 r r (omega arith)) ∙ ap (map line) (filter-append passes (range_with_len 0 r) (r ∷ [])) ∙ map-append line (filter passes (range_with_len 0 r)) (filter passes (r ∷ [])) ∙ ap (λ v. listed_below line passes r ++ v) (one (passes r))
+      ap (λ v. map line (filter passes v)) (range-last r) ∙ ap (map line) (filter-append passes (range_with_len 0 r) (r ∷ [])) ∙ map-append line (filter passes (range_with_len 0 r)) (filter passes (r ∷ [])) ∙ ap (λ v. listed_below line passes r ++ v) (one (passes r))
     where
       one : (b : Bool) → map line (cond b (r ∷ []) []) ≡ cond b (line r ∷ []) []
       one true = refl

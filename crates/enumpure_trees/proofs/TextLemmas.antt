@@ -1,5 +1,5 @@
 -- The text of the listed lines is that of the tree's equilibria, and its length.
-use Rattle.std.proofs.Common.{ℕ, ◌+◌, ◌*◌, ◌/◌, ◌<◌, ◌≤◌, ◌≡◌, Bool, List, length, map, ap, subst, ◌∙◌, arith}
+use Rattle.std.proofs.Common.{ℕ, ◌*◌, ◌/◌, ◌<◌, ◌≤◌, ◌≡◌, Bool, List, length, map, ap, subst, ◌∙◌, arith}
 use Rattle.std.specs.List.{count_by}
 use Rattle.std.proofs.Math.Nat.{mul-le-mul_right}
 use Rattle.game_theory.specs.Profiles.{IsProfile, profile_count}
@@ -58,10 +58,6 @@ length-listed t form orders best_replies n h each =
     length-lines_below (game_of_tree t) form.choices orders best_replies n (orders-counts form.choices orders are) (AllHaveNumbers-sorted form.choices orders h.are_sorted) long (λ r l. each _ (IsProfile-ordered form.choices orders (ranked (map length form.choices) r) are (IsProfile-ranked (map length form.choices) r (omega arith))))
 
 -- ---- the limit
--- more lines of n bytes than the limit has room for
-pub above_limit : (most n count : ℕ) → 0 < n → most / n < count → most < count * n
-above_limit most n count p l = let room : (most / n + 1) * n ≤ count * n = mul-le-mul_right n (omega arith) in omega arith
-
 -- lines for which it has room
 pub below_limit : (most n count : ℕ) → 0 < n → count ≤ most / n → count * n ≤ most
 below_limit most n count p l = let room : count * n ≤ (most / n) * n = mul-le-mul_right n l in omega arith

@@ -7,12 +7,12 @@ use Rattle.rational.proofs.RationalRing.{rational_ring}
 use Rattle.rational.proofs.Ring.{ring, combine, ◌times◌is◌, num, ◌:+◌, ◌:*◌, :neg, A, B, C, D, E}
 use Rattle.rational.proofs.Linear.{Claim, holds, holds_ℤ, all_hold_ℤ, linear, at, lit, ◌⟨+⟩◌, ◌⟨≤⟩◌, ◌⟨=⟩◌}
 use Rattle.rational.proofs.Field.{half, le_of_eq, le_of_lt, two_halves}
-use Rattle.rational.proofs.InverseLemmas.{ne_zero_of_pos, one_pos}
+use Rattle.rational.proofs.InverseLemmas.{ne_zero_of_pos, zero_lt_one, zero_le_one}
 use Rattle.rational.proofs.MidpointLemmas.{half_pos}
 use Rattle.game_theory.specs.Mixed.{Mixed, pure, sure}
 use Rattle.game_theory.specs.Lines.{entries}
 use Rattle.game_theory.proofs.ProfileLineLemmas.{listed-same}
-use Rattle.game_theory.proofs.SureStrategyLemmas.{zero_le_one, sure-not_negative, sum_to-sure}
+use Rattle.game_theory.proofs.SureStrategyLemmas.{sure-not_negative, sum_to-sure}
 use Rattle.extreme_equilibria.specs.ExtremeEquilibria.{AreSame, IsMidpoint, IsExtremeEquilibrium, IsExtremeEquilibriumLine}
 use Rattle.extreme_equilibria.specs.TwoPlayers.{pays_against}
 use Rattle.extreme_equilibria.specs.Bimatrix.{gain, mean_gain, IsMixedStrategy, IsBestReply, IsBimatrixEquilibrium}
@@ -92,7 +92,7 @@ halfway = below_two (λ i. sure 0 i +ℚ sure 1 i ≡ halves 0 i +ℚ halves 0 i
 inside : IsExtremeEquilibrium indifferent_game halves → ⊥
 inside h =
     let s = extreme_to_tables indifferent_game 2 1 refl halves h in
-    ne_zero_of_pos one_ℚ one_pos (s.first_alone (sure 0) (sure 1) (indifference (sure 0) (halves 1) (sure_mixed 2 0 (omega arith)) second_sure) (indifference (sure 1) (halves 1) (sure_mixed 2 1 (omega arith)) second_sure) halfway 0 (omega arith))
+    ne_zero_of_pos one_ℚ zero_lt_one (s.first_alone (sure 0) (sure 1) (indifference (sure 0) (halves 1) (sure_mixed 2 0 (omega arith)) second_sure) (indifference (sure 1) (halves 1) (sure_mixed 2 1 (omega arith)) second_sure) halfway 0 (omega arith))
 
 pub indifference-holds : IndifferenceHasExtremeEquilibria
 indifference-holds =

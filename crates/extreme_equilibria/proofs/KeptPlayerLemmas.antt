@@ -6,10 +6,10 @@ use Rattle.rational.proofs.Field.{le_of_eq, le_of_lt, lt_irrefl, lt_of_lt_of_le,
 use Rattle.rational.proofs.Rules.{zero-*ℚ}
 use Rattle.rational.proofs.SumLemmas.{sum_to-zeros, sum_to-lt}
 use Rattle.rational.proofs.MeanLemmas.{support}
+use Rattle.rational.proofs.InverseLemmas.{zero_lt_one}
 use Rattle.game_theory.specs.Profiles.{Game}
 use Rattle.game_theory.specs.Mixed.{Mixed, IsValid, payoff}
 use Rattle.game_theory.specs.Equilibrium.{IsEquilibrium}
-use Rattle.game_theory.proofs.SureStrategyLemmas.{zero_lt_one}
 use Rattle.extreme_equilibria.specs.TwoPlayers.{other, pays_against}
 use Rattle.extreme_equilibria.specs.Elimination.{IsKeptAfter, IsKept}
 use Rattle.extreme_equilibria.specs.KeptLaws.{EquilibriaAreZeroAtRemoved}

@@ -8,7 +8,6 @@ pub mod KeptStrategyLemmas
 pub mod KeptTableLemmas
 pub mod LabelLemmas
 pub mod ListSumLemmas
-pub mod MappedListLemmas
 pub mod MaskLemmas
 pub mod MeanLemmas
 pub mod PairLineLemmas

@@ -5,7 +5,7 @@ use Rattle.rational.specs.Sum.{sum_to}
 use Rattle.rational.proofs.RationalRing.{rational_ring, *ℚ_comm}
 use Rattle.rational.proofs.Ring.{ring, combine, ◌times◌is◌, num, ◌:*◌, A, B, C}
 use Rattle.rational.proofs.Field.{nonneg-mul, le-mul_right, *ℚ-inv}
-use Rattle.rational.proofs.Rules.{zero-*ℚ}
+use Rattle.rational.proofs.Rules.{zero-*ℚ, one_times}
 use Rattle.rational.proofs.SumLemmas.{sum_to-scale_right, sum_to-same}
 use Rattle.rational.proofs.MeanLemmas.{support}
 use Rattle.linear_systems.specs.Points.{IsNonzero}
@@ -14,16 +14,13 @@ use Rattle.extreme_equilibria.specs.Bimatrix.{gain, mean_gain, IsMixedStrategy, 
 use Rattle.extreme_equilibria.specs.Polytopes.{IsInPolytope, IsLabelledPair, scaled}
 use Rattle.extreme_equilibria.proofs.LabelLemmas.{IsLabelled}
 use Rattle.rational.proofs.Field.{le_of_lt}
-use Rattle.rational.proofs.InverseLemmas.{one_pos, ne_zero_of_pos, inv_pos}
+use Rattle.rational.proofs.InverseLemmas.{ne_zero_of_pos, inv_pos, zero_lt_one}
 use Rattle.extreme_equilibria.proofs.PositiveNumberLemmas.{inv_same, sum-pos, nonzero_of_sum, mean-pos}
 use Rattle.extreme_equilibria.proofs.LabelLemmas.{labels_out, labels_in}
 
 -- ---- scaling of sums
 pub gain-times : (n : ℕ) (a : ℕ → ℕ → ℚ) (y : ℕ → ℚ) (t : ℚ) (i : ℕ) → gain n a (λ j. y j *ℚ t) i ≡ gain n a y i *ℚ t
 gain-times n a y t i = sum_to-same n _ (λ j. (a i j *ℚ y j) *ℚ t) (λ j h. ring rational_ring (a i j ∷ y j ∷ t ∷ []) (A :* (B :* C)) (A :* B :* C) refl) ∙ sum_to-scale_right n t (λ j. a i j *ℚ y j)
-
-one-times : (a t : ℚ) → a ≡ one_ℚ → a *ℚ t ≡ t
-one-times a t e = ap (λ x. x *ℚ t) e ∙ ring rational_ring (t ∷ []) (num 1 :* A) A refl
 
 pub scaled_mix : (n : ℕ) (p : ℕ → ℚ) → ((i : ℕ) → i < n → zero_ℚ ≤ℚ p i) → zero_ℚ <ℚ sum_to n p → IsMixedStrategy n (scaled n p)
 scaled_mix n p h g =
@@ -35,7 +32,7 @@ scaled_mix n p h g =
 -- a mix comes back from its multiples
 pub scaled_back : (n : ℕ) (x : ℕ → ℚ) (w : ℚ) → sum_to n x ≡ one_ℚ → w ≢ zero_ℚ → (i : ℕ) → scaled n (λ i. x i *ℚ w) i ≡ x i
 scaled_back n x w e h i =
-    let s : sum_to n (λ i. x i *ℚ w) ≡ w = sum_to-scale_right n w x ∙ one-times (sum_to n x) w e in
+    let s : sum_to n (λ i. x i *ℚ w) ≡ w = sum_to-scale_right n w x ∙ one_times (sum_to n x) w e in
     ap (λ u. (x i *ℚ w) *ℚ inv_ℚ u) s ∙ combine rational_ring (x i ∷ w ∷ inv_ℚ w ∷ []) ((A times B :* C is num 1) ∷ []) (A :* B :* C) A refl (*ℚ-inv w h, tt)
 
 -- a point is its scaling times its sum
@@ -58,7 +55,7 @@ swapped r =
 
 bound : {m n : ℕ} {a c : ℕ → ℕ → ℚ} {p q : ℕ → ℚ} → Pair m n a c p q → (i : ℕ) → i < m → gain n a (scaled n q) i ≤ℚ inv_ℚ (sum_to n q)
 bound {m} {n} {a} {c} {p} {q} r i h =
-    subst₂ (λ x y. x ≤ℚ y) (sym (gain-times n a q (inv_ℚ (sum_to n q)) i)) (one-times one_ℚ (inv_ℚ (sum_to n q)) refl) (le-mul_right (inv_ℚ (sum_to n q)) (gain n a q i) one_ℚ (le_of_lt zero_ℚ (inv_ℚ (sum_to n q)) (inv_pos (sum_to n q) r.q_sum)) (r.q_in.rows i h))
+    subst₂ (λ x y. x ≤ℚ y) (sym (gain-times n a q (inv_ℚ (sum_to n q)) i)) (one_times one_ℚ (inv_ℚ (sum_to n q)) refl) (le-mul_right (inv_ℚ (sum_to n q)) (gain n a q i) one_ℚ (le_of_lt zero_ℚ (inv_ℚ (sum_to n q)) (inv_pos (sum_to n q) r.q_sum)) (r.q_in.rows i h))
 
 -- what the first player gets is 1 over the sum of the second point
 pub value_is : {m n : ℕ} {a c : ℕ → ℕ → ℚ} {p q : ℕ → ℚ} → Pair m n a c p q → mean_gain m n a (scaled m p) (scaled n q) ≡ inv_ℚ (sum_to n q)
@@ -66,7 +63,7 @@ value_is {m} {n} {a} {c} {p} {q} r =
     let mix = scaled_mix m p r.p_in.not_negative r.p_sum in
     (support m (scaled m p) (gain n a (scaled n q)) (inv_ℚ (sum_to n q)) mix.not_negative mix.sum_is_one (bound r)).1 (λ i h. elim (r.p_label i h) [
       | inl e ↦ inl (ap (λ x. x *ℚ (inv_ℚ (sum_to m p))) e ∙ zero-*ℚ (inv_ℚ (sum_to m p)))
-      | inr e ↦ inr (gain-times n a q (inv_ℚ (sum_to n q)) i ∙ one-times (gain n a q i) (inv_ℚ (sum_to n q)) e)
+      | inr e ↦ inr (gain-times n a q (inv_ℚ (sum_to n q)) i ∙ one_times (gain n a q i) (inv_ℚ (sum_to n q)) e)
     ])
 
 best_reply : {m n : ℕ} {a c : ℕ → ℕ → ℚ} {p q : ℕ → ℚ} → Pair m n a c p q → IsBestReply m n a (scaled m p) (scaled n q)
@@ -79,7 +76,7 @@ equilibrium_of {m} {n} {a} {c} {p} {q} r =
 
 -- ---- back
 nonzero_mix : (n : ℕ) (x : ℕ → ℚ) → IsMixedStrategy n x → IsNonzero n x
-nonzero_mix n x h = nonzero_of_sum n x (λ e. ne_zero_of_pos one_ℚ one_pos (sym h.sum_is_one ∙ e))
+nonzero_mix n x h = nonzero_of_sum n x (λ e. ne_zero_of_pos one_ℚ zero_lt_one (sym h.sum_is_one ∙ e))
 
 pub gain-pos : (m n : ℕ) (a : ℕ → ℕ → ℚ) (y : ℕ → ℚ) (i : ℕ) → IsPositive m n a → IsMixedStrategy n y → i < m → zero_ℚ <ℚ gain n a y i
 gain-pos m n a y i h g b =
@@ -104,7 +101,7 @@ label_of m n a x y w h k best i b =
     ]
 
 divided_sum : (n : ℕ) (x : ℕ → ℚ) (v : ℚ) → zero_ℚ <ℚ v → IsMixedStrategy n x → zero_ℚ <ℚ sum_to n (λ i. x i *ℚ inv_ℚ v)
-divided_sum n x v h k = subst (λ s. zero_ℚ <ℚ s) (sym (sum_to-scale_right n (inv_ℚ v) x ∙ one-times (sum_to n x) (inv_ℚ v) k.sum_is_one)) (inv_pos v h)
+divided_sum n x v h k = subst (λ s. zero_ℚ <ℚ s) (sym (sum_to-scale_right n (inv_ℚ v) x ∙ one_times (sum_to n x) (inv_ℚ v) k.sum_is_one)) (inv_pos v h)
 
 -- an equilibrium, divided by the other player's payoff, is a completely labelled pair
 pub pair_of : (m n : ℕ) (a c : ℕ → ℕ → ℚ) (x y : ℕ → ℚ) → IsPositive m n a → IsPositive n m c → IsBimatrixEquilibrium m n a c x y → Pair m n a c (λ i. x i *ℚ inv_ℚ (mean_gain n m c y x)) (λ j. y j *ℚ inv_ℚ (mean_gain m n a x y))

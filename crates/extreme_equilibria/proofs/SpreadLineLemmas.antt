@@ -5,6 +5,7 @@ use Rattle.std.specs.Prelude.{Contains}
 use Rattle.std.proofs.lemmas.Bool.{cases_lt, cases_eq}
 use Rattle.std.proofs.lemmas.List.Elements.{Contains-get_or}
 use Rattle.std.proofs.lemmas.List.Kept.{AllPairs-from_increasing}
+use Rattle.lists.proofs.ElementLemmas.{mapped, unmapped}
 use Rattle.rational.specs.Rational.{ℚ, ◌+ℚ◌, ◌<ℚ◌}
 use Rattle.game_theory.specs.Profiles.{Game}
 use Rattle.game_theory.specs.Mixed.{Mixed}
@@ -15,7 +16,6 @@ use Rattle.game_theory.proofs.LineOrderLemmas.{StandsBefore-append}
 use Rattle.game_theory.proofs.ProfileLineLemmas.{listed-same, entries-same, entries-injective, StandsBefore-listed}
 use Rattle.extreme_equilibria.specs.ExtremeEquilibria.{with_part, IsExtremeEquilibrium, IsExtremeEquilibriumLine, AreExtremeEquilibria}
 use Rattle.extreme_equilibria.specs.KeptTable.{AreKeptLists, kept_table, at_kept, IsZeroAtRemoved}
-use Rattle.extreme_equilibria.proofs.MappedListLemmas.{from-map, into-map}
 use Rattle.extreme_equilibria.proofs.KeptListLemmas.{place, contains_or_not}
 use Rattle.extreme_equilibria.proofs.KeptTableLemmas.{are-kept, at-within, off-list, kept-count}
 use Rattle.extreme_equilibria.proofs.ExtremeEquilibriaLemmas.{extreme-kept}
@@ -113,20 +113,20 @@ module _ (g : Game) (first second : List ℕ) (m n : ℕ) (are : g.strategies �
     spread-lines xs each h = record {
       in_order = spread-order xs each h.in_order;
       sound = λ k d l.
-          let at = from-map wide xs (get_or (map wide xs) k d) (Contains-get_or (map wide xs) k d l) in
+          let at = unmapped wide (get_or (map wide xs) k d) xs (Contains-get_or (map wide xs) k d l) in
           let s = each at.0 at.1 in
-          let c = into-map line xs at.0 at.1 in
+          let c = mapped line at.0 xs at.1 in
           let e = sound-at (line at.0) c in
           record {
             profile = s.profile;
             is_extreme = (extreme-kept g kept s.profile two lists).1 (s.zero_at_removed, extreme-same (kept_table g kept) e.profile (at_kept kept s.profile) (entries-injective (kept_table g kept).strategies e.profile (at_kept kept s.profile) (sym e.is_line ∙ s.is_line)) e.is_extreme);
-            is_line = at.2 ∙ s.is_wide;
+            is_line = sym at.2 ∙ s.is_wide;
           };
       complete = λ p e.
           let k = (extreme-kept g kept p two lists).0 e in
-          let at = from-map line xs (entries (kept_table g kept).strategies (at_kept kept p)) (h.complete (at_kept kept p) k.1) in
+          let at = unmapped line (entries (kept_table g kept).strategies (at_kept kept p)) xs (h.complete (at_kept kept p) k.1) in
           let s = each at.0 at.1 in
-          subst (Contains (map wide xs)) (s.is_wide ∙ sym (same-wide p s.profile k.0 s.zero_at_removed (at.2 ∙ s.is_line))) (into-map wide xs at.0 at.1);
+          subst (Contains (map wide xs)) (s.is_wide ∙ sym (same-wide p s.profile k.0 s.zero_at_removed (sym at.2 ∙ s.is_line))) (mapped wide at.0 xs at.1);
     }
       where
         sound-at : (z : List ℚ) → Contains (map line xs) z → IsExtremeEquilibriumLine (kept_table g kept) z

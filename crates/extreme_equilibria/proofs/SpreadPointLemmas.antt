@@ -1,18 +1,13 @@
 -- Points of the kept strategies, spread over all strategies, make spread lines.
-use Rattle.std.proofs.Common.{ℕ, zero, suc, ◌<◌, ◌≡◌, List, [], ◌∷◌, ◌++◌, length, get_or, refl, sym, ap, ap₂, ◌∙◌, arith}
-use Rattle.std.proofs.lemmas.List.{append-nil, ext_get_or}
+use Rattle.std.proofs.Common.{ℕ, zero, suc, ◌≡◌, List, [], ◌∷◌, ◌++◌, length, get_or, refl, sym, ap, ap₂, ◌∙◌, arith}
+use Rattle.std.proofs.lemmas.List.{append-nil}
 use Rattle.rational.specs.Rational.{ℚ, zero_ℚ}
 use Rattle.game_theory.specs.Profiles.{Game}
 use Rattle.game_theory.specs.Mixed.{Mixed}
 use Rattle.game_theory.specs.Lines.{listed, entries}
-use Rattle.game_theory.proofs.ProfileLineLemmas.{length-listed, get_or-listed}
+use Rattle.game_theory.proofs.ProfileLineLemmas.{listed-of}
 use Rattle.extreme_equilibria.specs.KeptTable.{AreKeptLists, at_kept, IsZeroAtRemoved, IsSpreadPoint}
 use Rattle.extreme_equilibria.proofs.SpreadLineLemmas.{AreSpread}
-
--- a list by its entries
-listed-of : (n : ℕ) (xs : List ℚ) (f : ℕ → ℚ) → length xs ≡ n → ((k : ℕ) → k < n → get_or xs k zero_ℚ ≡ f k) → xs ≡ listed n f
-listed-of n xs f e each =
-    ext_get_or zero_ℚ xs (listed n f) (e ∙ sym (length-listed n f)) (λ k l. each k (omega (arith, l, e)) ∙ sym (get_or-listed n f k zero_ℚ (omega (arith, l, e))))
 
 -- the line of two spread points
 pub points-spread : (g : Game) (first second : List ℕ) (m n : ℕ) → g.strategies ≡ m ∷ n ∷ [] → AreKeptLists g (first ∷ second ∷ []) → (a b c d : List ℚ)

@@ -13,7 +13,7 @@ use Rattle.extreme_equilibria.specs.ExtremeEquilibria.{AreSame, IsMidpoint}
 use Rattle.extreme_equilibria.specs.Bimatrix.{IsNoMidpoint, gain, mean_gain, IsBimatrixEquilibrium, IsExtremeBimatrixEquilibrium, IsPositive}
 use Rattle.extreme_equilibria.specs.Polytopes.{IsInPolytope, IsVertex, IsCompletelyLabelled, IsLabelledPair, IsVertexPair, IsScaledPair, scaled}
 use Rattle.extreme_equilibria.proofs.LabelLemmas.{IsLabelled}
-use Rattle.rational.proofs.InverseLemmas.{one_pos, ne_zero_of_pos, inv_pos}
+use Rattle.rational.proofs.InverseLemmas.{ne_zero_of_pos, inv_pos, zero_lt_one}
 use Rattle.extreme_equilibria.proofs.PositiveNumberLemmas.{sum-pos, nonzero_of_sum}
 use Rattle.extreme_equilibria.proofs.MeanLemmas.{IsMean, sum-midpoint, dot-midpoint, polytope_convex, equilibria_convex, alone_mean}
 use Rattle.extreme_equilibria.proofs.LabelLemmas.{labels_out, labels_in}
@@ -24,7 +24,7 @@ gain-zero : (k : ℕ) (c : ℕ → ℕ → ℚ) (p : ℕ → ℚ) (j : ℕ) → 
 gain-zero k c p j e = sum_to-same k _ (λ i. zero_ℚ) (λ i h. ap (λ x. c j i *ℚ x) (e i h) ∙ ring rational_ring (c j i ∷ []) (A :* num 0) (num 0) refl) ∙ sum_to-zero k
 
 one_ne_zero_of_pos : one_ℚ ≢ zero_ℚ
-one_ne_zero_of_pos = ne_zero_of_pos one_ℚ one_pos
+one_ne_zero_of_pos = ne_zero_of_pos one_ℚ zero_lt_one
 
 -- zero pairs with zero alone
 pub zero_partner : (n m : ℕ) (c : ℕ → ℕ → ℚ) (p q : ℕ → ℚ) → IsLabelled n m c q p → AreSame m p (λ i. zero_ℚ) → AreSame n q (λ j. zero_ℚ)

@@ -6,18 +6,16 @@ use native.Mathlib.Nat.{div_self}
 use Rattle.rational.specs.Gcd.{gcd}
 use Rattle.rational.specs.Rational.{ℚ, ◌+ℚ◌, zero_ℚ}
 use Rattle.rational.proofs.DenominatorLemmas.{den_pos}
-use Rattle.rational.proofs.IntegerRing.{integer_ring}
+use Rattle.rational.proofs.IntegerRing.{integer_ring, *ℤ_one}
 use Rattle.rational.proofs.RationalRing.{+ℚ_comm, +ℚ-zero}
-use Rattle.rational.proofs.Ring.{ring, ◌:*◌, ◌:+◌, num, A}
+use Rattle.rational.proofs.Ring.{ring, ◌:+◌, num, A}
+use Rattle.rational.proofs.PartLemmas.{gcd-one}
+use Rattle.rational.proofs.Rules.{zero-+ℚ}
 use Rattle.frac128.specs.Fraction.{Fits, PartFits}
 use Rattle.frac128.specs.Steps.{AddFits, num_beside}
 use Rattle.frac128.proofs.PartLemmas.{kept, kept-part, zero-num, zero-den}
-use Rattle.frac128.proofs.QuotientLemmas.{gcd-one, gcd_same}
+use Rattle.frac128.proofs.QuotientLemmas.{gcd_same}
 use Rattle.frac128.proofs.SumSizeLemmas.{Summands, Tops}
-
--- a number times one
-times-one : (n : ℤ) → n *ℤ pos 1 ≡ n
-times-one n = ring integer_ring (n ∷ []) (A :* num 1) A refl
 
 -- zero plus a number
 zero-plus : (n : ℤ) → pos 0 +ℤ n ≡ n
@@ -30,11 +28,7 @@ beside_zero b = ap (λ n. n *ℤ pos (b.den / gcd zero_ℚ.den b.den)) zero-num 
 -- a numerator beside zero stays as it is
 zero_beside : (b : ℚ) → num_beside b zero_ℚ ≡ b.num
 zero_beside b =
-    ap (λ d. b.num *ℤ pos (d / gcd b.den d)) zero-den ∙ ap (λ g. b.num *ℤ pos (1 / g)) (gcd-one b.den) ∙ times-one b.num
-
--- a sum with zero fits, and is the other number
-zero_sum : (b : ℚ) → zero_ℚ +ℚ b ≡ b
-zero_sum b = +ℚ_comm zero_ℚ b ∙ +ℚ-zero b
+    ap (λ d. b.num *ℤ pos (d / gcd b.den d)) zero-den ∙ ap (λ g. b.num *ℤ pos (1 / g)) (gcd-one b.den) ∙ *ℤ_one b.num
 
 -- a sum with zero fits
 zero_sum_fits : (b : ℚ) → Fits b → AddFits zero_ℚ b
@@ -43,7 +37,7 @@ zero_sum_fits b f =
       left = subst PartFits (sym (beside_zero b)) (lit< tt);
       right = subst PartFits (sym (zero_beside b)) f.num;
       top = subst PartFits (sym (ap₂ ◌+ℤ◌ (beside_zero b) (zero_beside b) ∙ zero-plus b.num)) f.num;
-      den = subst (λ (q : ℚ). q.den < 2 ^ 127) (sym (zero_sum b)) f.den;
+      den = subst (λ (q : ℚ). q.den < 2 ^ 127) (sym (zero-+ℚ b)) f.den;
     }
 
 -- a sum fits either way round
@@ -59,7 +53,7 @@ AddFits_comm a b k =
 -- the answer where the first number is zero
 pub left_zero : (a b : ℚ) → a ≡ zero_ℚ → Fits b → (b ≡ a +ℚ b) × AddFits a b
 left_zero a b e f =
-    subst (λ x. (b ≡ x +ℚ b) × AddFits x b) (sym e) (sym (zero_sum b), zero_sum_fits b f)
+    subst (λ x. (b ≡ x +ℚ b) × AddFits x b) (sym e) (sym (zero-+ℚ b), zero_sum_fits b f)
 
 -- the answer where the second number is zero
 pub right_zero : (a b : ℚ) → b ≡ zero_ℚ → Fits a → (a ≡ a +ℚ b) × AddFits a b
@@ -89,7 +83,7 @@ like_tops a b n m t en fa em fb is fits =
     }
   where
     kept_as : (x y : ℤ) → x ≡ y → PartFits y → x ≡ kept x *ℤ pos 1
-    kept_as x y e f = e ∙ sym (kept-part x y e f) ∙ sym (times-one (kept x))
+    kept_as x y e f = e ∙ sym (kept-part x y e f) ∙ sym (*ℤ_one (kept x))
 
 -- a sum of numerators that does not fit refuses the step
 pub like_refused : (a b : ℚ) (n m : ℤ) → a.den ≡ b.den → n ≡ a.num → Fits a → m ≡ b.num → Fits b → ¬ (PartFits (kept n +ℤ kept m)) → ¬ (AddFits a b)
@@ -98,4 +92,4 @@ like_refused a b n m same en fa em fb wide k =
   where
     beside : (x y : ℚ) → x.den ≡ y.den → Fits y → num_beside y x ≡ y.num
     beside x y e f =
-        ap (λ d. y.num *ℤ pos (d / gcd y.den d)) e ∙ ap (λ g. y.num *ℤ pos (y.den / g)) (gcd_same y.den) ∙ ap (λ d. y.num *ℤ pos d) (div_self (den_pos y)) ∙ times-one y.num
+        ap (λ d. y.num *ℤ pos (d / gcd y.den d)) e ∙ ap (λ g. y.num *ℤ pos (y.den / g)) (gcd_same y.den) ∙ ap (λ d. y.num *ℤ pos d) (div_self (den_pos y)) ∙ *ℤ_one y.num

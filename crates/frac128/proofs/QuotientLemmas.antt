@@ -5,6 +5,7 @@ use Rattle.std.specs.Ordering.{nat_cmp}
 use Rattle.std.proofs.lemmas.Nat.Gcd.{IsGcd-from_mod, same_from_IsGcd, IsGcd-from_zero}
 use native.Mathlib.Nat.{eq-one_of_dvd-one, dvd_antisymm, dvd_refl}
 use Rattle.std.specs.Int.{◌∣◌}
+use Rattle.lists.proofs.NumberLemmas.{nat_cmp-less, nat_cmp-more}
 use Rattle.rational.specs.Gcd.{gcd}
 use Rattle.rational.specs.GcdLaws.{gcd-is}
 
@@ -16,10 +17,6 @@ gcd-step a b = same_from_IsGcd a b (gcd a b) (gcd b (a % b)) (gcd-is a b) (IsGcd
 pub gcd-zero : (a : ℕ) → gcd a 0 ≡ a
 gcd-zero a = same_from_IsGcd a 0 (gcd a 0) a (gcd-is a 0) (IsGcd-from_zero a 0 refl)
 
--- a number shares only 1 with 1
-pub gcd-one : (a : ℕ) → gcd a 1 ≡ 1
-gcd-one a = eq-one_of_dvd-one (gcd-is a 1).1
-
 -- a number shares all of itself
 pub gcd_same : (a : ℕ) → gcd a a ≡ a
 gcd_same a = dvd_antisymm (gcd-is a a).0 ((gcd-is a a).2 a (dvd_refl a) (dvd_refl a))
@@ -28,14 +25,6 @@ gcd_same a = dvd_antisymm (gcd-is a a).0 ((gcd-is a a).2 a (dvd_refl a) (dvd_ref
 pub one_shared : (a b : ℕ) → (a ≡ 1) ⊎ (b ≡ 1) → 1 ≡ gcd a b
 one_shared a b (inl e) = sym (eq-one_of_dvd-one (subst (λ x. gcd a b ∣ x) e (gcd-is a b).0))
 one_shared a b (inr e) = sym (eq-one_of_dvd-one (subst (λ x. gcd a b ∣ x) e (gcd-is a b).1))
-
--- a less number is less
-cmp_less : (m n : ℕ) → m < n → nat_cmp m n ≡ Less
-cmp_less m n h = grind arith
-
--- a greater number is greater
-cmp_more : (m n : ℕ) → n < m → nat_cmp m n ≡ Greater
-cmp_more m n h = grind arith
 
 -- the same number added on both sides changes no order
 cmp_shift : (k m n : ℕ) → nat_cmp (k + m) (k + n) ≡ nat_cmp m n
@@ -74,12 +63,12 @@ pub record Parted (a b c d q r x y : ℕ) : Type 0 where
 -- the answer by a less whole part
 pub less_by_whole : (a b c d q r : ℕ) → 0 < b → 0 < d → q ≡ a / b → r ≡ c / d → q < r → Less ≡ nat_cmp (a * d) (c * b)
 less_by_whole a b c d q r p s e f h =
-    sym (cmp_less (a * d) (c * b) (below_by_whole a b c d p s (subst₂ (λ m n. m < n) e f h)))
+    sym (nat_cmp-less (a * d) (c * b) (below_by_whole a b c d p s (subst₂ (λ m n. m < n) e f h)))
 
 -- the answer by a greater whole part
 pub more_by_whole : (a b c d q r : ℕ) → 0 < b → 0 < d → q ≡ a / b → r ≡ c / d → r < q → Greater ≡ nat_cmp (a * d) (c * b)
 more_by_whole a b c d q r p s e f h =
-    sym (cmp_more (a * d) (c * b) (below_by_whole c d a b s p (subst₂ (λ m n. m < n) f e h)))
+    sym (nat_cmp-more (a * d) (c * b) (below_by_whole c d a b s p (subst₂ (λ m n. m < n) f e h)))
 
 -- two rests zero
 zero_zero : (x y b d : ℕ) → x ≡ 0 → y ≡ 0 → Equal ≡ nat_cmp (x * d) (y * b)
@@ -87,11 +76,11 @@ zero_zero x y b d p q = rw (p, q, zero-mul, zero-mul) refl
 
 -- the first rest zero alone
 zero_some : (x y b d : ℕ) → 0 < b → x ≡ 0 → ¬ (y ≡ 0) → Less ≡ nat_cmp (x * d) (y * b)
-zero_some x y b d h p q = sym (cmp_less (x * d) (y * b) (rw (p, zero-mul) (mul-pos (pos_of_ne-zero q) h)))
+zero_some x y b d h p q = sym (nat_cmp-less (x * d) (y * b) (rw (p, zero-mul) (mul-pos (pos_of_ne-zero q) h)))
 
 -- the second rest zero alone
 some_zero : (x y b d : ℕ) → 0 < d → ¬ (x ≡ 0) → y ≡ 0 → Greater ≡ nat_cmp (x * d) (y * b)
-some_zero x y b d h p q = sym (cmp_more (x * d) (y * b) (rw (q, zero-mul) (mul-pos (pos_of_ne-zero p) h)))
+some_zero x y b d h p q = sym (nat_cmp-more (x * d) (y * b) (rw (q, zero-mul) (mul-pos (pos_of_ne-zero p) h)))
 
 -- with one whole part the order is that of the rests
 by_parted : (a b c d q r x y : ℕ) → Parted a b c d q r x y → r ≤ q → q ≤ r → nat_cmp (x * d) (y * b) ≡ nat_cmp (a * d) (c * b)

@@ -1,10 +1,9 @@
 -- Steps that come in parts, one after another.
-use Rattle.std.proofs.Common.{ℕ, zero, suc, ◌+◌, ◌<◌, ◌≤◌, ◌≡◌, inl, inr, List, [], ◌∷◌, ◌++◌, All, Result, Ok, Err, MatchResult, length, refl, sym, ap, ap₂, ◌∙◌, subst, append_assoc, length-append, add-one, zero-add, arith, eq-or-lt_of_le, le_of_suc-le-suc}
+use Rattle.std.proofs.Common.{ℕ, zero, suc, ◌+◌, ◌<◌, ◌≤◌, ◌≡◌, inl, inr, List, [], ◌++◌, All, Result, Ok, Err, MatchResult, length, sym, ap, ap₂, ◌∙◌, subst, append_assoc, length-append, add-one, zero-add, arith, eq-or-lt_of_le, le_of_suc-le-suc}
 use Rattle.std.specs.List.{range_with_len, flat_map}
-use Rattle.std.proofs.lemmas.Grind.{flat_map-append}
-use Rattle.std.proofs.lemmas.List.{append-nil, map-id, get_or-append-add, get_or_append_left}
+use Rattle.std.proofs.lemmas.List.{append-nil, get_or-append-add, get_or_append_left}
 use Rattle.std.proofs.lemmas.List.Elements.{All-append}
-use Rattle.std.proofs.lemmas.List.FromFn.{map-range_with_len_more}
+use Rattle.lists.proofs.ElementLemmas.{made-more}
 use Rattle.rational.specs.Rational.{ℚ}
 use Rattle.frac128.specs.Steps.{Step, StepFits, IsFirstUnfit, StepsGive}
 use Rattle.frac128.proofs.StepRunLemmas.{first_unfit-more, first_unfit-following}
@@ -15,15 +14,9 @@ module _ (f : ℕ → List Step) where
   abbrev pub steps_of : ℕ → ℕ → List Step
   steps_of a n = flat_map f (range_with_len a n)
 
-  -- the numbers end with the last one
-  numbers-next : (a n : ℕ) → range_with_len a (suc n) ≡ range_with_len a n ++ (a + n) ∷ []
-  numbers-next a n =
-      ap (range_with_len a) (sym (add-one n)) ∙ sym (map-id (range_with_len a (n + 1))) ∙ map-range_with_len_more (λ k. k) a n (a + n) refl ∙ ap (λ ks. ks ++ (a + n) ∷ []) (map-id (range_with_len a n))
-
   -- the steps of one number more
   pub steps-next : (a n : ℕ) → steps_of a (suc n) ≡ steps_of a n ++ f (a + n)
-  steps-next a n =
-      ap (flat_map f) (numbers-next a n) ∙ flat_map-append f (range_with_len a n) ((a + n) ∷ []) ∙ ap (λ v. steps_of a n ++ v) (append-nil (f (a + n)))
+  steps-next a n = made-more f a n
 
   steps-joined : (a n : ℕ) → steps_of 0 (a + n) ≡ steps_of 0 a ++ steps_of a n
   steps-joined a zero = ap (steps_of 0) (omega arith) ∙ sym (append-nil (steps_of 0 a))

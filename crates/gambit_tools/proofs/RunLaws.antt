@@ -1,8 +1,11 @@
 -- Runs: from the computed text to what is told, and that they are exact.
-use Rattle.std.proofs.Common.{ℕ, suc, ◌≡◌, ◌<◌, ◌⊎◌, ◌∙◌, inl, inr, sym, ap, subst, refl, arith, List, [], ◌∷◌, Contains, Option, None, Some, Result, Ok, Err}
+use Rattle.std.proofs.Common.{ℕ, ◌≡◌, ◌<◌, ◌⊎◌, ◌∙◌, inl, inr, sym, ap, subst, refl, List, [], ◌∷◌, Contains, Option, None, Some, Result, Ok, Err}
 use Rattle.std.specs.Result.{result_err}
+use Rattle.std.proofs.lemmas.Option.{same_Some}
 use Rattle.answers.proofs.AnswerLemmas.{err_same}
 use Rattle.answers.specs.Answers.{IsSingle, map_ok}
+use Rattle.lists.proofs.ElementLemmas.{first_in, rest_in}
+use Rattle.lists.proofs.OptionLemmas.{some-none}
 use Rattle.outside.specs.Inputs.{InputName, InputsSeen}
 use Rattle.words.specs.Words.{Command, command_from}
 use Rattle.words.specs.declared.Usage.{Usage}
@@ -33,13 +36,10 @@ formed_contents (refusal.SamePlayer number) names = refl
 formed_contents _ names = elim names [ ]
 
 -- of inputs that were read one is selected, or nothing was read
-later : (names : List InputName) (first name : InputName) → Contains names name → Contains (first ∷ names) name
-later names first name h = (suc h.0, omega (arith, h.1), h.2)
-
 some_read : (names : List InputName) (before after : InputsSeen) → AreRead names before after → (after ≡ before) ⊎ ((name : InputName) × Contains names name × (after.selected ≡ Some name))
 some_read [] before after h = inl h
-some_read (name ∷ []) before after h = inr (name, (0, omega arith, refl), h.selected)
-some_read (name ∷ other ∷ names) before after h = elim (some_read (other ∷ names) before after h) [ inl e ↦ inl e | inr s ↦ inr (s.0, later (other ∷ names) name s.0 s.1, s.2) ]
+some_read (name ∷ []) before after h = inr (name, first_in name [], h.selected)
+some_read (name ∷ other ∷ names) before after h = elim (some_read (other ∷ names) before after h) [ inl e ↦ inl e | inr s ↦ inr (s.0, rest_in name s.0 (other ∷ names) s.1, s.2) ]
 
 -- want of memory that is told in place of a refusal by the contents
 memory_told : (command : Command) (before after : Outside) (r : Refusal) → origin r ≡ OfContents → IsCommandRun command before after (Err r) → IsCommandRun command before after (Err refusal.Memory)
@@ -55,21 +55,18 @@ told-run (Err usage) before after r told (inr (names, e)) h = absurd (elim h.is_
   | inr m ↦ subst HasFormedLine (err_same r refusal.Memory m) names
 ])
 
-some_same : (a b : Refusal) → Some a ≡ Some b → a ≡ b
-some_same a b e = cc
-
 -- a counted fault of an input is told
 pub counts-told : (before after : InputsSeen) (r told : Refusal) → IsToldAs r told → CountsDetermine before after (Some r) → CountsDetermine before after (Some told)
 counts-told before after r told (inl t) counts = subst (λ x. CountsDetermine before after (Some x)) (sym t) counts
 counts-told before after r told (inr p) counts = record {
-  opening = λ l. absurd (subst HasFormedLine (some_same r refusal.OpenFault (counts.opening l)) p.0);
-  reading = λ l. absurd (subst HasFormedLine (some_same r refusal.ReadFault (counts.reading l)) p.0);
+  opening = λ l. absurd (subst HasFormedLine (same_Some r refusal.OpenFault (counts.opening l)) p.0);
+  reading = λ l. absurd (subst HasFormedLine (same_Some r refusal.ReadFault (counts.reading l)) p.0);
 }
 
 -- a counted fault of the output is told
 pub write_fault-told : (r told : Refusal) → IsToldAs r told → Some r ≡ Some refusal.WriteFault → Some told ≡ Some refusal.WriteFault
 write_fault-told r told (inl t) f = ap Some t ∙ f
-write_fault-told r told (inr p) f = absurd (subst HasFormedLine (some_same r refusal.WriteFault f) p.0)
+write_fault-told r told (inr p) f = absurd (subst HasFormedLine (same_Some r refusal.WriteFault f) p.0)
 
 -- ---- runs are exact
 -- contents that are told are the contents
@@ -121,9 +118,6 @@ run-exact single words before after answer h command e contents told none =
     ]
 
 -- ---- outcomes
-none_some : (r : Refusal) → None ≡ Some r → ⊥
-none_some r e = cc
-
 -- a run that answers the text
 pub outcome-text : {X : Type 0} → AnswersAreSingle → (words : List (List ℕ)) (before after : Seen) (answered : Result X Refusal) (view : X → List ℕ) → None ≡ result_err answered
     → IsRunOf (command_from words) (but_for_err before) (but_for_err after) (map_ok answered view) → CountsDetermine before.inputs after.inputs (result_err answered)
@@ -138,7 +132,7 @@ outcome-text single words before after (Ok x) view e h counts faults stay untold
   output_faults = faults;
   inputs_stay = stay;
 }
-outcome-text single words before after (Err r) view e h counts faults stay untold = absurd (none_some r e)
+outcome-text single words before after (Err r) view e h counts faults stay untold = absurd (some-none r (sym e))
 
 -- a run that is refused
 pub outcome-told : {X : Type 0} → AnswersAreSingle → (words : List (List ℕ)) (before after : Seen) (answered : Result X Refusal) (view : X → List ℕ) (r told : Refusal) (status : ℕ) → Some r ≡ result_err answered
@@ -146,9 +140,9 @@ pub outcome-told : {X : Type 0} → AnswersAreSingle → (words : List (List ℕ
     → (before.out.faults < after.out.faults → result_err answered ≡ Some refusal.WriteFault)
     → ((name : InputName) → after.inputs.held name ≡ before.inputs.held name) → IsToldAs r told → status ≡ status_of told → IsTold before.err after.err (Some told)
     → IsToldRun words before after status (Err told)
-outcome-told single words before after (Ok x) view r told status e h counts faults stay is status_is tells = absurd (none_some r (sym e))
+outcome-told single words before after (Ok x) view r told status e h counts faults stay is status_is tells = absurd (some-none r e)
 outcome-told single words before after (Err q) view r told status e h counts faults stay is status_is tells =
-    (let same : IsToldAs q told = subst (λ x. IsToldAs x told) (some_same r q e) is in
+    (let same : IsToldAs q told = subst (λ x. IsToldAs x told) (same_Some r q e) is in
     let run : IsRunOf (command_from words) (but_for_err before) (but_for_err after) (Err told) = told-run (command_from words) (but_for_err before) (but_for_err after) q told same h in
     record {
       status_is = status_is;

@@ -4,6 +4,7 @@ pub mod GameLemmas
 pub mod LimitLemmas
 mod NumberLemmas
 mod PlayerSetLemmas
+pub mod ParentPathLemmas
 pub mod PrefixOrderLemmas
 pub mod StrideLemmas
 pub mod TableCountLemmas

@@ -9,6 +9,7 @@ use Rattle.std.proofs.lemmas.List.Sums.{fold-append}
 use Rattle.std.proofs.lemmas.Str.Parse.{IsNumeralModel, numerals_by_fold, digits_value_short}
 use Rattle.std.specs.Char.{IsAsciiDigit, is_ascii_digit}
 use Rattle.std.specs.List.{All, AllByRecursion, list_all, prefix_len, take_while}
+use Rattle.lists.proofs.ElementLemmas.{All-parts}
 use Rattle.game_text.specs.Digits.{digits_value, without_leading_zeros, without_trailing_zeros}
 use Rattle.game_text.specs.NumberReading.{GivesSize, digits_after, is_zero, following}
 use Rattle.game_text.proofs.PrefixLemmas.{Stops, front-passes, following-stops}
@@ -51,11 +52,6 @@ pub leading_digits : (text : List ℕ) → All IsAsciiDigit (take_while is_ascii
 leading_digits text = All-from_recursion IsAsciiDigit _ (front_digits text)
 
 -- ---- parts of a list
--- what holds of a list holds of both of its parts
-pub split_all : (P : ℕ → Type 0) (xs ys : List ℕ) → AllByRecursion P (xs ++ ys) → AllByRecursion P xs × AllByRecursion P ys
-split_all P [] ys h = (tt, h)
-split_all P (x ∷ xs) ys h = let r = split_all P xs ys h.1 in ((h.0, r.0), r.1)
-
 -- what holds of both parts holds of the list
 join_all : (P : ℕ → Type 0) (xs ys : List ℕ) → AllByRecursion P xs → AllByRecursion P ys → AllByRecursion P (xs ++ ys)
 join_all P [] ys h k = k
@@ -150,7 +146,7 @@ struck-value digits =
 -- what is left are digits
 struck-digits : (digits : List ℕ) → AllByRecursion IsAsciiDigit digits → AllByRecursion IsAsciiDigit (without_leading_zeros digits)
 struck-digits digits h =
-    subst (AllByRecursion IsAsciiDigit) (sym (struck digits)) (split_all IsAsciiDigit (take_while is_zero digits) (following is_zero digits) (subst (AllByRecursion IsAsciiDigit) (sym (take-append-drop (prefix_len is_zero digits) digits)) h)).1
+    subst (AllByRecursion IsAsciiDigit) (sym (struck digits)) (All-parts IsAsciiDigit (take_while is_zero digits) (following is_zero digits) (subst (AllByRecursion IsAsciiDigit) (sym (take-append-drop (prefix_len is_zero digits) digits)) h)).1
 
 -- what is left begins with no zero
 struck-stops : (digits : List ℕ) → Stops is_zero (without_leading_zeros digits)
@@ -199,7 +195,7 @@ struck_after digits =
 -- what is left are digits
 pub kept_digits : (digits kept : List ℕ) → Struck digits kept → All IsAsciiDigit digits → All IsAsciiDigit kept
 kept_digits digits kept s all =
-    All-from_recursion IsAsciiDigit kept (split_all IsAsciiDigit kept s.zeros (subst (AllByRecursion IsAsciiDigit) s.is (recursion_from_All IsAsciiDigit digits all))).0
+    All-from_recursion IsAsciiDigit kept (All-parts IsAsciiDigit kept s.zeros (subst (AllByRecursion IsAsciiDigit) s.is (recursion_from_All IsAsciiDigit digits all))).0
 
 -- ---- the limit on digits
 -- a number from ten to 36 on has more than 36 digits that count

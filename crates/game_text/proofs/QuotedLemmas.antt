@@ -2,6 +2,7 @@
 use Rattle.std.proofs.Common.{◌≡◌, ◌≢◌, ℕ, Bool, true, false, cond, ◌&&◌, ◌==◌, inl, inr, List, [], ◌∷◌, ◌++◌, Option, Some, None, refl, sym, ap, ◌∙◌}
 use Rattle.std.proofs.lemmas.Bool.{and_parts, false_from_ne_true}
 use Rattle.std.proofs.lemmas.Bool.Decides.{Decides-eqb}
+use Rattle.std.proofs.lemmas.Option.{same_Some}
 use Rattle.game_text.specs.Tokens.{FirstIs, SpellsText}
 use Rattle.game_text.specs.Reading.{spelled_byte, spelled, after_text}
 use Rattle.lists.proofs.NumberLemmas.{unequal}
@@ -92,14 +93,10 @@ text_is_open bytes inner text rest e p h =
     let k : after_text bytes ≡ 34 ∷ rest = ap after_text p ∙ (spelled-text inner text rest h).1 in
     cc
 
--- what was read is one piece
-some_once : (x y : ℕ × List ℕ) → Some x ≡ Some y → x ≡ y
-some_once x y e = cc
-
 -- the same piece spells the same
 same_piece : (b c : ℕ) (bytes after : List ℕ) → ◌≡◌ {A = Option (ℕ × List ℕ)} (Some (b, bytes)) (Some (c, after)) → (b ∷ spelled bytes ≡ c ∷ spelled after) × (after_text bytes ≡ after_text after)
 same_piece b c bytes after e =
-    let p = some_once (b, bytes) (c, after) e in
+    let p = same_Some (b, bytes) (c, after) e in
     (ap (λ (x : ℕ × List ℕ). x.0 ∷ spelled x.1) p, ap (λ (x : ℕ × List ℕ). after_text x.1) p)
 
 -- one more byte of a text

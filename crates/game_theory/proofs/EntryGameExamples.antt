@@ -7,8 +7,9 @@ use Rattle.rational.specs.Rational.{ℚ, is_lowest, frac, ◌+ℚ◌, ◌*ℚ◌
 use Rattle.rational.specs.Sum.{sum_to}
 use Rattle.rational.proofs.Field.{lt_irrefl}
 use Rattle.rational.proofs.SumLemmas.{sum_to-zeros}
+use Rattle.rational.proofs.InverseLemmas.{zero_lt_one}
 use Rattle.game_theory.specs.Mixed.{sure}
-use Rattle.game_theory.proofs.SureStrategyLemmas.{zero_lt_one, sure-other, sure-not_negative, sum_to-sure}
+use Rattle.game_theory.proofs.SureStrategyLemmas.{sure-other, sure-not_negative, sum_to-sure}
 use Rattle.game_theory.specs.Trees.{IsTree}
 use Rattle.game_theory.specs.Behaviour.{IsChoice, payoff, pure, reply}
 use Rattle.game_theory.specs.TreeEquilibrium.{IsEquilibrium}

@@ -1,5 +1,8 @@
 -- The order of lines: a list in order is determined by its members.
 use Rattle.std.proofs.Common.{zero, suc, ◌≡◌, ◌⊎◌, inl, inr, List, [], ◌∷◌, ◌++◌, length, get_or, All, Contains, refl, sym, ap₂, ◌∙◌, subst, arith}
+use Rattle.std.specs.List.{AllPairs}
+use Rattle.std.proofs.lemmas.List.Kept.{AllPairs-cons}
+use Rattle.lists.proofs.ElementLemmas.{determined_by-members}
 use Rattle.rational.specs.Rational.{ℚ, ◌<ℚ◌}
 use Rattle.rational.proofs.Field.{le_or_lt, le_antisymm, lt_irrefl, lt_trans}
 use Rattle.game_theory.specs.Profiles.{Game}
@@ -66,42 +69,14 @@ AreInOrder-push [] x o h = tt
 AreInOrder-push (y ∷ []) x o h = (h 0 y (omega arith), tt)
 AreInOrder-push (y ∷ z ∷ lines) x o h = (o.0, AreInOrder-push (z ∷ lines) x o.1 (λ k d l. h (suc k) d (omega arith)))
 
--- a member is the first or one of the rest
-Contains-cases : (x : List ℚ) (xs : List (List ℚ)) (z : List ℚ) → Contains (x ∷ xs) z → (x ≡ z) ⊎ Contains xs z
-Contains-cases x xs z (zero, l, e) = inl e
-Contains-cases x xs z (suc k, l, e) = inr (k, omega arith, e)
-
--- the first line is a member
-Contains-first : (x : List ℚ) (xs : List (List ℚ)) → Contains (x ∷ xs) x
-Contains-first x xs = (0, omega arith, refl)
-
--- a member of the rest is a member
-Contains-later : (x : List ℚ) (xs : List (List ℚ)) (z : List ℚ) → Contains xs z → Contains (x ∷ xs) z
-Contains-later x xs z c = (suc c.0, omega arith, c.2)
-
--- the first line stands before each member of the rest
-AreInOrder-member : (x : List ℚ) (xs : List (List ℚ)) (z : List ℚ) → AreInOrder (x ∷ xs) → Contains xs z → StandsBefore x z
-AreInOrder-member x xs z o c = subst (λ v. StandsBefore x v) c.2 (AreInOrder-first x xs o c.0 z c.1)
-
--- two lists in order with the same members begin alike
-first_lines-same : (x : List ℚ) (xs : List (List ℚ)) (y : List ℚ) (ys : List (List ℚ)) → AreInOrder (x ∷ xs) → AreInOrder (y ∷ ys) → (y ≡ x) ⊎ Contains ys x → (x ≡ y) ⊎ Contains xs y → x ≡ y
-first_lines-same x xs y ys o p (inl e) d = sym e
-first_lines-same x xs y ys o p (inr c) (inl e) = e
-first_lines-same x xs y ys o p (inr c) (inr d) = absurd (StandsBefore-irrefl x (StandsBefore-trans x y x (AreInOrder-member x xs y o d) (AreInOrder-member y ys x p c)))
-
--- a member of the rest is none of the first
-rest_member : (x : List ℚ) (xs : List (List ℚ)) (y : List ℚ) (ys : List (List ℚ)) (z : List ℚ) → AreInOrder (x ∷ xs) → x ≡ y → Contains xs z → (y ≡ z) ⊎ Contains ys z → Contains ys z
-rest_member x xs y ys z o e c (inr d) = d
-rest_member x xs y ys z o e c (inl f) = absurd (StandsBefore-irrefl x (subst (λ v. StandsBefore x v) (sym (e ∙ f)) (AreInOrder-member x xs z o c)))
+-- each line stands before all later ones
+AllPairs-from_order : (lines : List (List ℚ)) → AreInOrder lines → AllPairs StandsBefore lines
+AllPairs-from_order [] h = λ i j d l k. absurd (omega arith)
+AllPairs-from_order (x ∷ lines) h = AllPairs-cons StandsBefore x lines (AreInOrder-first x lines h) (AllPairs-from_order lines (AreInOrder-rest x lines h))
 
 -- two lists in order with the same members are equal
 pub AreInOrder-determined : (a b : List (List ℚ)) → AreInOrder a → AreInOrder b → ((z : List ℚ) → Contains a z → Contains b z) → ((z : List ℚ) → Contains b z → Contains a z) → a ≡ b
-AreInOrder-determined [] [] o p f g = refl
-AreInOrder-determined [] (y ∷ ys) o p f g = let c = g y (Contains-first y ys) in absurd (omega (arith, c.1))
-AreInOrder-determined (x ∷ xs) [] o p f g = let c = f x (Contains-first x xs) in absurd (omega (arith, c.1))
-AreInOrder-determined (x ∷ xs) (y ∷ ys) o p f g =
-    let e : x ≡ y = first_lines-same x xs y ys o p (Contains-cases y ys x (f x (Contains-first x xs))) (Contains-cases x xs y (g y (Contains-first y ys))) in
-    ap₂ (λ v w. v ∷ w) e (AreInOrder-determined xs ys (AreInOrder-rest x xs o) (AreInOrder-rest y ys p) (λ z c. rest_member x xs y ys z o e c (Contains-cases y ys z (f z (Contains-later x xs z c)))) (λ z c. rest_member y ys x xs z p (sym e) c (Contains-cases x xs z (g z (Contains-later y ys z c)))))
+AreInOrder-determined a b o p = determined_by-members StandsBefore a b (λ x y l k. StandsBefore-irrefl x (StandsBefore-trans x y x l k)) (AllPairs-from_order a o) (AllPairs-from_order b p)
 
 -- each line of one list of pure equilibria stands in any other
 pure_equilibria-within : (g : Game) (a b : List (List ℚ)) → ArePureEquilibria g a → ArePureEquilibria g b → (z : List ℚ) → Contains a z → Contains b z

@@ -34,11 +34,11 @@ bits-entries [] m h = tt
 bits-entries (n ∷ ns) m h = bits-listed n (m 0) (entries ns (later m)) (h 0) (bits-entries ns (later m) (λ i. h (suc i)))
 
 -- the digits
-zero-text : number_text zero_ℚ ≡ 48 ∷ []
+pub zero-text : number_text zero_ℚ ≡ 48 ∷ []
 unfolding frac gcd is_lowest digits
 zero-text = refl
 
-one-text : number_text one_ℚ ≡ 49 ∷ []
+pub one-text : number_text one_ℚ ≡ 49 ∷ []
 unfolding frac gcd is_lowest digits
 one-text = refl
 

@@ -2,14 +2,16 @@
 use Rattle.std.proofs.Common.{ℕ, zero, suc, ◌+◌, ◌<◌, ◌≡◌, ◌⊎◌, inl, inr, List, [], ◌∷◌, ◌++◌, length, length-append, get_or, refl, sym, ap, ap₂, ◌∙◌, subst, subst₂, arith}
 use Rattle.std.specs.List.{sum}
 use Rattle.std.proofs.lemmas.List.Sums.{sum_by-cons}
+use Rattle.std.proofs.lemmas.List.{ext_get_or}
 use Rattle.lists.specs.Orders.{ComesBefore}
-use Rattle.rational.specs.Rational.{ℚ, ◌<ℚ◌}
+use Rattle.rational.specs.Rational.{ℚ, ◌<ℚ◌, zero_ℚ}
+use Rattle.rational.proofs.InverseLemmas.{zero_lt_one}
 use Rattle.game_theory.specs.Profiles.{IsProfile}
 use Rattle.game_theory.specs.Mixed.{Mixed, later, sure, pure}
 use Rattle.game_theory.specs.Lines.{listed, entries, StandsBefore}
 use Rattle.game_theory.proofs.LineOrderLemmas.{StandsBefore-irrefl, StandsBefore-append}
 use Rattle.game_theory.proofs.ProfileOrderLemmas.{ComesBefore-cases}
-use Rattle.game_theory.proofs.SureStrategyLemmas.{zero_lt_one, sure-at, sure-other}
+use Rattle.game_theory.proofs.SureStrategyLemmas.{sure-at, sure-other}
 
 -- there are n entries
 pub length-listed : (n : ℕ) (f : ℕ → ℚ) → length (listed n f) ≡ n
@@ -26,6 +28,11 @@ get_or-listed (suc n) f (suc i) d h = get_or-listed n (λ i. f (suc i)) i d (ome
 pub listed-same : (n : ℕ) (f g : ℕ → ℚ) → ((i : ℕ) → i < n → f i ≡ g i) → listed n f ≡ listed n g
 listed-same zero f g e = refl
 listed-same (suc n) f g e = ap₂ (λ x y. x ∷ y) (e 0 (omega arith)) (listed-same n (λ i. f (suc i)) (λ i. g (suc i)) (λ i h. e (suc i) (omega arith)))
+
+-- a list by its entries
+pub listed-of : (n : ℕ) (xs : List ℚ) (f : ℕ → ℚ) → length xs ≡ n → ((k : ℕ) → k < n → get_or xs k zero_ℚ ≡ f k) → xs ≡ listed n f
+listed-of n xs f e each =
+    ext_get_or zero_ℚ xs (listed n f) (e ∙ sym (length-listed n f)) (λ k l. each k (omega (arith, l, e)) ∙ sym (get_or-listed n f k zero_ℚ (omega (arith, l, e))))
 
 -- equal probabilities give equal entries
 pub entries-same : (ns : List ℕ) (m n : Mixed) → ((i s : ℕ) → i < length ns → s < get_or ns i 0 → m i s ≡ n i s) → entries ns m ≡ entries ns n

@@ -1,12 +1,11 @@
 -- The probabilities of a player who plays one strategy.
-use Rattle.std.proofs.Common.{ℕ, ◌<◌, ◌≡◌, ◌≢◌, Bool, true, false, eqb, cond, pos, [], sym, ◌∙◌, arith, tests}
-use Rattle.std.proofs.lemmas.Int.{ints}
-use Rattle.rational.specs.Rational.{◌≤ℚ◌, ◌<ℚ◌, zero_ℚ, one_ℚ}
+use Rattle.std.proofs.Common.{ℕ, ◌<◌, ◌≡◌, ◌≢◌, Bool, true, false, eqb, cond, sym, ◌∙◌, arith, tests}
+use Rattle.rational.specs.Rational.{◌≤ℚ◌, zero_ℚ, one_ℚ}
 use Rattle.rational.specs.Sum.{sum_to}
 use Rattle.rational.proofs.RationalRing.{*ℚ-one}
 use Rattle.rational.proofs.Field.{le_refl}
-use Rattle.rational.proofs.Linear.{linear, lit, ◌⟨≤⟩◌, ◌⟨<⟩◌}
 use Rattle.rational.proofs.SumLemmas.{sum_to-same, sum_to-single}
+use Rattle.rational.proofs.InverseLemmas.{zero_le_one}
 use Rattle.game_theory.specs.Mixed.{sure}
 
 -- the strategy that is played has probability 1
@@ -16,14 +15,6 @@ sure-at s = grind (arith, tests)
 -- each other strategy has probability 0
 pub sure-other : (s t : ℕ) → t ≢ s → sure s t ≡ zero_ℚ
 sure-other s t h = grind (arith, tests)
-
--- 0 is at most 1
-pub zero_le_one : zero_ℚ ≤ℚ one_ℚ
-zero_le_one = linear [] [] (lit (pos 0) ⟨≤⟩ lit (pos 1)) (λ one z p h. omega (arith, ints)) tt
-
--- 0 is less than 1
-pub zero_lt_one : zero_ℚ <ℚ one_ℚ
-zero_lt_one = linear [] [] (lit (pos 0) ⟨<⟩ lit (pos 1)) (λ one z p h. omega (arith, ints)) tt
 
 -- the probabilities are not negative
 pub sure-not_negative : (s t : ℕ) → zero_ℚ ≤ℚ sure s t

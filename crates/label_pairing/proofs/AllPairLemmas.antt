@@ -1,13 +1,14 @@
 -- All pairs are exactly the pairs, in ascending order
-use Rattle.std.proofs.Common.{ℕ, zero, suc, ◌<◌, ◌≡◌, ◌≢◌, ◌⊎◌, inl, inr, Bool, true, false, cond, List, [], ◌∷◌, ◌++◌, All, length, map, get_or, refl, sym, ap, ◌∙◌, subst, subst₂, arith}
+use Rattle.std.proofs.Common.{ℕ, zero, suc, ◌<◌, ◌≡◌, ◌≢◌, ◌⊎◌, inl, inr, Bool, true, false, cond, List, [], ◌∷◌, All, length, map, get_or, refl, sym, ap, ◌∙◌, subst, subst₂, arith}
 use Rattle.std.specs.Prelude.{Contains}
 use Rattle.std.specs.List.{AllPairs, filter, range_with_len}
 use Rattle.std.proofs.lemmas.Bool.{cases_lt}
-use Rattle.std.proofs.lemmas.List.Elements.{All-append, All-filter, All-contains, All-contains_itself, filter_passes, Contains-get_or, Contains-append_left, Contains-append_right, Contains-append_cases}
+use Rattle.std.proofs.lemmas.List.Elements.{All-filter, All-contains, All-contains_itself, filter_passes, Contains-get_or, Contains-append_left, Contains-append_right, Contains-append_cases}
 use Rattle.std.proofs.lemmas.List.FromFn.{length-map-range_with_len, get_or-map-range_with_len}
-use Rattle.std.proofs.lemmas.List.Kept.{AllPairs-cons, AllPairs-filter}
+use Rattle.std.proofs.lemmas.List.Kept.{AllPairs-filter}
 use Rattle.answers.specs.Answers.{only, refused_by}
 use Rattle.answers.proofs.AnswerLemmas.{bind-single, only-single, refuse_where-single, refused_by-single}
+use Rattle.lists.proofs.ElementLemmas.{AllPairs-append}
 use Rattle.linear_systems.specs.Vertices.{MarkedPoint}
 use Rattle.game_core.specs.Limits.{within}
 use Rattle.game_core.specs.declared.too_large.What.TheVariants as what
@@ -60,13 +61,6 @@ places_in (suc m) n i j h l =
       | inr b ↦ let e : m ≡ i = omega arith in Contains-append_right (places m n) _ (i, j) (subst (λ k. Contains {X = ℕ × ℕ} (row m n) (k, j)) e (row_in m n j l))
     ])
 
--- lists of which no two elements are related in either nor across
-all_pairs-append : {X : Type 0} (R : X → X → Type 0) (xs ys : List X) → AllPairs R xs → AllPairs R ys → All (λ x. All (R x) ys) xs → AllPairs R (xs ++ ys)
-all_pairs-append R [] ys h g across = g
-all_pairs-append R (x ∷ xs) ys h g across =
-    AllPairs-cons R x (xs ++ ys) (All-append (R x) xs ys (λ k d l. h 0 (suc k) d (omega arith) (omega arith)) (across 0 x (omega arith)))
-    (all_pairs-append R xs ys (λ i j d l m. h (suc i) (suc j) d (omega arith) (omega arith)) g (λ k d l. across (suc k) d (omega arith)))
-
 -- each place stands before the later ones
 abbrev Earlier : ℕ × ℕ → ℕ × ℕ → Type 0
 Earlier p q = (p.0 < q.0) ⊎ ((p.0 ≡ q.0) × (p.1 < q.1))
@@ -74,7 +68,7 @@ Earlier p q = (p.0 < q.0) ⊎ ((p.0 ≡ q.0) × (p.1 < q.1))
 places_ascending : (m n : ℕ) → AllPairs Earlier (places m n)
 places_ascending zero n = λ i j d l m. absurd (omega arith)
 places_ascending (suc m) n =
-    subst (AllPairs Earlier) (sym (places-next m n)) (all_pairs-append Earlier (places m n) (row m n) (places_ascending m n) row_ascending across)
+    subst (AllPairs Earlier) (sym (places-next m n)) (AllPairs-append Earlier (places m n) (row m n) (places_ascending m n) row_ascending across)
   where
     row_ascending : AllPairs Earlier (row m n)
     row_ascending i j d l h =

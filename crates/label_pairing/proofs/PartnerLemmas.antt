@@ -12,12 +12,13 @@ use Rattle.std.proofs.lemmas.List.Edits.{length-between, get_or-between}
 use Rattle.std.proofs.lemmas.List.FromFn.{length-range_with_len, sum_by-map-range_with_len_more}
 use Rattle.std.proofs.lemmas.List.Sums.{sum_by-append, sum_by-cons, sum_by-le, sum_by_push, sum_by_more, sum-map, length-filter, count_by-le-length}
 use Rattle.rayon.specs.Shown.{run-append}
+use Rattle.lists.proofs.ElementLemmas.{range_more}
 use Rattle.linear_systems.specs.Vertices.{MarkedPoint}
 use Rattle.basis_enum.specs.Vertices.{mark_of, marks_of}
 use Rattle.basis_enum.specs.declared.vertex.Vertex.{Vertex}
 use Rattle.label_pairing.specs.Matches.{completes, AreWords, HasBitsOf, partner_count, partner_pairs}
 use Rattle.label_pairing.specs.Pairs.{are_together, mark_at, all_pairs}
-use Rattle.label_pairing.proofs.RowLemmas.{row, rows, range_more, rows-next, vertex-together}
+use Rattle.label_pairing.proofs.RowLemmas.{row, rows, rows-next, vertex-together}
 
 -- as many numbers pass one test as another, where the numbers of the one run with those of the other
 same_count : (f g : ℕ → Bool) (a b n : ℕ) → ((i : ℕ) → i < n → f (a + i) ≡ g (b + i)) → count_by f (range_with_len a n) ≡ count_by g (range_with_len b n)

@@ -6,6 +6,7 @@ use Rattle.std.proofs.lemmas.List.{append-nil, get_or-map, length-map}
 use Rattle.std.proofs.lemmas.Grind.{flat_map-append}
 use Rattle.std.proofs.lemmas.List.Elements.{filter-append}
 use Rattle.std.proofs.lemmas.List.FromFn.{filter_of_map_range_with_len_more}
+use Rattle.lists.proofs.ElementLemmas.{range_more}
 use Rattle.linear_systems.specs.Vertices.{MarkedPoint}
 use Rattle.basis_enum.specs.Vertices.{mark_of, marks_of}
 use Rattle.basis_enum.specs.declared.vertex.Vertex.{Vertex}
@@ -19,11 +20,6 @@ row all first second i n = filter (λ p. are_together all (mark_at first p.0) (m
 -- the pairs of the first m places
 abbrev pub rows : List ℕ → List MarkedPoint → List MarkedPoint → ℕ → List (ℕ × ℕ)
 rows all first second m = filter (λ p. are_together all (mark_at first p.0) (mark_at second p.1)) (places m (length second))
-
--- one more number
-pub range_more : (a n : ℕ) → range_with_len a (suc n) ≡ range_with_len a n ++ (a + n) ∷ []
-range_more a zero = ap (λ k. k ∷ []) (omega arith)
-range_more a (suc n) = ap (λ xs. a ∷ xs) (range_more (a + 1) n ∙ ap (λ k. range_with_len (a + 1) n ++ k ∷ []) (omega arith))
 
 -- one more place
 pub places-next : (m n : ℕ) → places (suc m) n ≡ places m n ++ map (λ j. (m, j)) (range_with_len 0 n)

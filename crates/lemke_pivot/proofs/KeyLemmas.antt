@@ -13,12 +13,13 @@ use Rattle.rational.proofs.InverseLemmas.{ne_zero_of_pos}
 use Rattle.linear_systems.proofs.AgreementLemmas.{alike_refl, alike_lex_row}
 use Rattle.linear_systems.proofs.LexRowLemmas.{keys_stay_alike}
 use Rattle.linear_systems.proofs.ReachedTableauLemmas.{reached_pivot, reached_alike}
+use Rattle.linear_systems.proofs.PivotLemmas.{basic_r, nonbasic_c}
 use Rattle.lemke_pivot.specs.Values.{is_basic}
 use Rattle.lemke_pivot.proofs.EdgeLemmas.{swap, Pivots}
 use Rattle.lemke_pivot.specs.ProblemPaths.{w_of, start, Replaces}
 use Rattle.lemke_pivot.proofs.AlikeTableauLemmas.{into_width, alike_basic}
 use Rattle.lemke_pivot.proofs.ValueLemmas.{basic_yes, basic_no, nonbasic_no}
-use Rattle.lemke_pivot.proofs.PivotLemmas.{basic_r, nonbasic_c, basic_swap, undone, same_leaves}
+use Rattle.lemke_pivot.proofs.PivotLemmas.{basic_swap, undone, same_leaves}
 
 -- a tableau of this system, with positive keys
 pub record HasPositiveKeys (n : ℕ) (M : ℕ → ℕ → ℚ) (b : ℕ → ℚ) (t : Tableau) : Type 0 where

@@ -1,9 +1,8 @@
 -- lexicographic pivots: the bases that they lead to, that each is undone by entering the variable that left, and that the basis and the
 -- entering variable determine the leaving one
-use Rattle.std.proofs.Common.{ℕ, suc, ◌<◌, ◌≡◌, ◌≢◌, ◌⊎◌, inl, inr, eqb, Bool, true, false, cond, [], ◌∷◌, refl, sym, ap, ap₂, ◌∙◌, subst, arith, tests, true≢false}
+use Rattle.std.proofs.Common.{ℕ, suc, ◌<◌, ◌≡◌, ◌≢◌, ◌⊎◌, inl, inr, Bool, true, false, [], ◌∷◌, refl, sym, ap, ap₂, ◌∙◌, subst, arith, true≢false}
 use Rattle.std.proofs.lemmas.Bool.{cases_eq}
 use Rattle.rational.specs.Rational.{ℚ, ◌+ℚ◌, ◌*ℚ◌, ◌-ℚ◌, neg_ℚ, inv_ℚ, zero_ℚ, ◌<ℚ◌}
-use Rattle.rational.specs.Sum.{change}
 use Rattle.rational.proofs.RationalRing.{rational_ring}
 use Rattle.rational.proofs.Ring.{ring, combine, ◌times◌is◌, var, num, ◌:+◌, ◌:*◌, ◌:-◌, :neg, A, B, C, D, E, F, G, H}
 use Rattle.rational.proofs.Field.{*ℚ-inv, lt_irrefl}
@@ -16,6 +15,7 @@ use Rattle.linear_systems.proofs.LexLemmas.{lex_same, lex_scale, lex_add, less_t
 use Rattle.linear_systems.proofs.RowLemmas.{key_same, key_other}
 use Rattle.linear_systems.proofs.ReachedTableauLemmas.{proper_pivot}
 use Rattle.linear_systems.proofs.BasisLemmas.{same_key, same_cell}
+use Rattle.linear_systems.proofs.PivotLemmas.{basic_r, basic_other, nonbasic_c, cell_rc, cell_c}
 use Rattle.lemke_pivot.specs.Values.{is_basic}
 use Rattle.lemke_pivot.proofs.EdgeLemmas.{swap, swap_in, swap_out, swap_other}
 use Rattle.lemke_pivot.proofs.ValueLemmas.{row_of, basic_yes, basic_no, basic_which, nonbasic_no}
@@ -25,40 +25,19 @@ pub lex_opposite : (n : ℕ) (f g : ℕ → ℚ) → ((j : ℕ) → j < n → g 
 lex_opposite n f g e p q = let s = lex_add n f g p q in
     lt_irrefl zero_ℚ (subst (λ x. zero_ℚ <ℚ x) (ap (λ x. f s.place +ℚ x) (e s.place s.within) ∙ ring rational_ring (f s.place ∷ []) (A :+ :neg A) (num 0) refl) s.above)
 
-pick_same : {X : Type 0} (i : ℕ) (a b : X) → cond (eqb i i) a b ≡ a
-pick_same i a b = grind (arith, tests)
-
-pick_other : {X : Type 0} (i r : ℕ) (a b : X) → i ≢ r → cond (eqb i r) a b ≡ b
-pick_other i r a b h = grind (arith, tests)
-
 -- ---- the variables of a pivot
 module _ (t : Tableau) (r c : ℕ) where
-  pub basic_r : (pivot t r c).basic r ≡ t.nonbasic c
-  basic_r = pick_same r (t.nonbasic c) (t.basic r)
-
-  basic_i : (i : ℕ) → i ≢ r → (pivot t r c).basic i ≡ t.basic i
-  basic_i i h = pick_other i r (t.nonbasic c) (t.basic i) h
-
-  pub nonbasic_c : (pivot t r c).nonbasic c ≡ t.basic r
-  nonbasic_c = pick_same c (t.basic r) (t.nonbasic c)
-
-  cell_rc : (pivot t r c).cell r c ≡ inv_ℚ (t.cell r c)
-  cell_rc = ap (λ (f : ℕ → ℚ). f c) (pick_same r (change (λ j. t.cell r j *ℚ inv_ℚ (t.cell r c)) c (inv_ℚ (t.cell r c))) _) ∙ pick_same c (inv_ℚ (t.cell r c)) (t.cell r c *ℚ inv_ℚ (t.cell r c))
-
-  cell_ic : (i : ℕ) → i ≢ r → (pivot t r c).cell i c ≡ neg_ℚ (t.cell i c *ℚ inv_ℚ (t.cell r c))
-  cell_ic i h = ap (λ (f : ℕ → ℚ). f c) (pick_other i r (change (λ j. t.cell r j *ℚ inv_ℚ (t.cell r c)) c (inv_ℚ (t.cell r c))) (change (λ j. t.cell i j -ℚ (t.cell i c *ℚ (t.cell r j *ℚ inv_ℚ (t.cell r c)))) c (neg_ℚ (t.cell i c *ℚ inv_ℚ (t.cell r c)))) h) ∙ pick_same c (neg_ℚ (t.cell i c *ℚ inv_ℚ (t.cell r c))) (t.cell i c -ℚ (t.cell i c *ℚ (t.cell r c *ℚ inv_ℚ (t.cell r c))))
-
   -- the entering variable is basic now, and the leaving one is not
   pub basic_swap : HasDistinctVariables t → r < t.rows → c < t.width → (v : ℕ) → is_basic (pivot t r c) v ≡ swap (is_basic t) (t.nonbasic c) (t.basic r) v
   basic_swap N hr hc v = go (cases_eq v (t.nonbasic c)) (cases_eq v (t.basic r))
     where
       rest : v ≢ t.nonbasic c → v ≢ t.basic r → (b : Bool) → is_basic t v ≡ b → is_basic (pivot t r c) v ≡ b
-      rest n m true e = let w = basic_which t v e in ap (is_basic (pivot t r c)) (sym w.1 ∙ sym (basic_i (row_of t v) (λ q. m (sym w.1 ∙ ap t.basic q)))) ∙ basic_yes (pivot t r c) (row_of t v) w.0
-      rest n m false e = basic_no (pivot t r c) v (λ i h q. elim (cases_eq i r) [ inl p ↦ n (sym q ∙ ap (pivot t r c).basic p ∙ basic_r) | inr p ↦ true≢false (sym (ap (is_basic t) (sym q ∙ basic_i i p) ∙ basic_yes t i h) ∙ e) ])
+      rest n m true e = let w = basic_which t v e in ap (is_basic (pivot t r c)) (sym w.1 ∙ sym (basic_other t r c (row_of t v) (λ q. m (sym w.1 ∙ ap t.basic q)))) ∙ basic_yes (pivot t r c) (row_of t v) w.0
+      rest n m false e = basic_no (pivot t r c) v (λ i h q. elim (cases_eq i r) [ inl p ↦ n (sym q ∙ ap (pivot t r c).basic p ∙ basic_r t r c) | inr p ↦ true≢false (sym (ap (is_basic t) (sym q ∙ basic_other t r c i p) ∙ basic_yes t i h) ∙ e) ])
 
       go : (v ≡ t.nonbasic c) ⊎ (v ≢ t.nonbasic c) → (v ≡ t.basic r) ⊎ (v ≢ t.basic r) → is_basic (pivot t r c) v ≡ swap (is_basic t) (t.nonbasic c) (t.basic r) v
-      go (inl e) d = ap (is_basic (pivot t r c)) (e ∙ sym basic_r) ∙ basic_yes (pivot t r c) r hr ∙ sym (ap (swap (is_basic t) (t.nonbasic c) (t.basic r)) e ∙ swap_in (is_basic t) (t.nonbasic c) (t.basic r))
-      go (inr n) (inl e) = ap (is_basic (pivot t r c)) (e ∙ sym nonbasic_c) ∙ nonbasic_no (pivot t r c) (proper_pivot t r c hr hc N) c hc ∙ sym (ap (swap (is_basic t) (t.nonbasic c) (t.basic r)) e ∙ swap_out (is_basic t) (t.nonbasic c) (t.basic r) (λ q. n (e ∙ q)))
+      go (inl e) d = ap (is_basic (pivot t r c)) (e ∙ sym (basic_r t r c)) ∙ basic_yes (pivot t r c) r hr ∙ sym (ap (swap (is_basic t) (t.nonbasic c) (t.basic r)) e ∙ swap_in (is_basic t) (t.nonbasic c) (t.basic r))
+      go (inr n) (inl e) = ap (is_basic (pivot t r c)) (e ∙ sym (nonbasic_c t r c)) ∙ nonbasic_no (pivot t r c) (proper_pivot t r c hr hc N) c hc ∙ sym (ap (swap (is_basic t) (t.nonbasic c) (t.basic r)) e ∙ swap_out (is_basic t) (t.nonbasic c) (t.basic r) (λ q. n (e ∙ q)))
       go (inr n) (inr m) = rest n m (is_basic t v) refl ∙ sym (swap_other (is_basic t) (t.nonbasic c) (t.basic r) v n m)
 
 -- entering the variable that left leads back
@@ -80,7 +59,7 @@ undone n b t c r hc L p =
     least i h d up =
         let e = (pivot t r c).cell i c in let f = (pivot t r c).cell r c in
         record {
-          by = lex_same (suc n) (λ k. inv_ℚ e *ℚ key b t i k) _ (λ k _. combine rational_ring (key b t i k ∷ key b t r k ∷ t.cell i c ∷ inv_ℚ (t.cell r c) ∷ e ∷ inv_ℚ e ∷ inv_ℚ f ∷ key b (pivot t r c) i k ∷ key b (pivot t r c) r k ∷ f ∷ []) ((:neg F times H is (A :- C :* (B :* D))) ∷ (G times var 8 is B :* D) ∷ (B :* F times E is :neg (C :* D)) ∷ (:neg B times E :* F is num 1) ∷ (B times var 9 :* G is num 1) ∷ (:neg B :* G times var 9 is D) ∷ []) (F :* A) (H :* F :- var 8 :* G) refl (key_other b t r c i k d hc ne, (key_same b t r c k hc ne, (cell_ic t r c i d, (*ℚ-inv e (ne_zero_of_pos e up), (*ℚ-inv f (ne_zero_of_pos f (subst (λ x. zero_ℚ <ℚ x) (sym (cell_rc t r c)) (inv_pos (t.cell r c) L.positive))), (cell_rc t r c, tt)))))))
+          by = lex_same (suc n) (λ k. inv_ℚ e *ℚ key b t i k) _ (λ k _. combine rational_ring (key b t i k ∷ key b t r k ∷ t.cell i c ∷ inv_ℚ (t.cell r c) ∷ e ∷ inv_ℚ e ∷ inv_ℚ f ∷ key b (pivot t r c) i k ∷ key b (pivot t r c) r k ∷ f ∷ []) ((:neg F times H is (A :- C :* (B :* D))) ∷ (G times var 8 is B :* D) ∷ (B :* F times E is :neg (C :* D)) ∷ (:neg B times E :* F is num 1) ∷ (B times var 9 :* G is num 1) ∷ (:neg B :* G times var 9 is D) ∷ []) (F :* A) (H :* F :- var 8 :* G) refl (key_other b t r c i k d hc ne, (key_same b t r c k hc ne, (cell_c t r c i d, (*ℚ-inv e (ne_zero_of_pos e up), (*ℚ-inv f (ne_zero_of_pos f (subst (λ x. zero_ℚ <ℚ x) (sym (cell_rc t r c)) (inv_pos (t.cell r c) L.positive))), (cell_rc t r c, tt)))))))
               (lex_scale (suc n) (inv_ℚ e) (key b t i) (inv_pos e up) (p i h));
         }
 

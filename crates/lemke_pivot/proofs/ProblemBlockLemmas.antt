@@ -1,10 +1,11 @@
 -- the rows of the complementary problem, block by block
 use Rattle.std.proofs.Common.{ℕ, ◌<◌, ◌≡◌, ◌+◌, ◌-◌, ltb, cond, true, false, [], ◌∷◌, refl, ap, ◌∙◌}
-use Rattle.rational.specs.Rational.{ℚ, ◌+ℚ◌, ◌-ℚ◌, neg_ℚ, zero_ℚ}
+use Rattle.rational.specs.Rational.{ℚ, ◌+ℚ◌, ◌-ℚ◌, neg_ℚ}
 use Rattle.rational.specs.Sum.{sum_to}
 use Rattle.rational.proofs.RationalRing.{rational_ring}
-use Rattle.rational.proofs.Ring.{ring, combine, ◌times◌is◌, num, ◌:+◌, ◌:-◌, :neg, A, B, C, D, E, F, G}
+use Rattle.rational.proofs.Ring.{combine, ◌times◌is◌, num, ◌:+◌, ◌:-◌, :neg, A, B, C, D, E, F, G}
 use Rattle.rational.proofs.SumLemmas.{sum_to-append}
+use Rattle.rational.proofs.Rules.{neg_ℚ-zero}
 use Rattle.lemke_pivot.specs.Vectors.{dot, image, zeros, joined}
 use Rattle.lemke_pivot.specs.Problems.{Costs, size, in_blocks, at_y, at_p, at_p', at_q, at_q', rows_x, rows_y, rows_p, rows_p', rows_q, rows_q', matrix}
 use Rattle.lemke_pivot.proofs.VectorLemmas.{transpose, joined_low, joined_high, dot_joined, dot-zeros, dot-neg}
@@ -53,9 +54,6 @@ module _ {A : Type 0} (s : Costs) (x y p p' q q' : ℕ → A) where
 neg-joined : (a : ℕ) (f f' g g' : ℕ → ℚ) (i : ℕ) → neg_ℚ (f i) ≡ f' i → neg_ℚ (g (i - a)) ≡ g' (i - a) → neg_ℚ (joined a f g i) ≡ joined a f' g' i
 neg-joined a f f' g g' i h k = elim (ltb i a) as (λ b. neg_ℚ (cond b (f i) (g (i - a))) ≡ cond b (f' i) (g' (i - a))) [ true ↦ h | false ↦ k ]
 
-neg-zero : neg_ℚ zero_ℚ ≡ zero_ℚ
-neg-zero = ring rational_ring [] (:neg (num 0)) (num 0) refl
-
 module _ (s : Costs) (r j : ℕ) where
   abbrev none_of_q : ℕ → ℚ
   none_of_q = joined s.k zeros zeros
@@ -70,14 +68,14 @@ module _ (s : Costs) (r j : ℕ) where
   none_of_y = joined s.Y zeros none_of_p
 
   neg-prices : (i : ℕ) → neg_ℚ (none_of_p i) ≡ none_of_p i
-  neg-prices i = neg-joined s.h zeros zeros none_of_p' none_of_p' i neg-zero (neg-joined s.h zeros zeros none_of_q none_of_q (i - s.h) neg-zero (neg-joined s.k zeros zeros zeros zeros (i - s.h - s.h) neg-zero neg-zero))
+  neg-prices i = neg-joined s.h zeros zeros none_of_p' none_of_p' i neg_ℚ-zero (neg-joined s.h zeros zeros none_of_q none_of_q (i - s.h) neg_ℚ-zero (neg-joined s.k zeros zeros zeros zeros (i - s.h - s.h) neg_ℚ-zero neg_ℚ-zero))
 
   pub neg-rows_p : neg_ℚ (rows_p s r j) ≡ rows_p' s r j
-  neg-rows_p = neg-joined s.X (s.E r) (λ i. neg_ℚ (s.E r i)) none_of_y none_of_y j refl (neg-joined s.Y zeros zeros none_of_p none_of_p (j - s.X) neg-zero (neg-prices (j - s.X - s.Y)))
+  neg-rows_p = neg-joined s.X (s.E r) (λ i. neg_ℚ (s.E r i)) none_of_y none_of_y j refl (neg-joined s.Y zeros zeros none_of_p none_of_p (j - s.X) neg_ℚ-zero (neg-prices (j - s.X - s.Y)))
 
   pub neg-rows_q : neg_ℚ (rows_q s r j) ≡ rows_q' s r j
   neg-rows_q =
-      neg-joined s.X zeros zeros (joined s.Y (s.F r) none_of_p) (joined s.Y (λ i. neg_ℚ (s.F r i)) none_of_p) j neg-zero (neg-joined s.Y (s.F r) (λ i. neg_ℚ (s.F r i)) none_of_p none_of_p (j - s.X) refl (neg-prices (j - s.X - s.Y)))
+      neg-joined s.X zeros zeros (joined s.Y (s.F r) none_of_p) (joined s.Y (λ i. neg_ℚ (s.F r i)) none_of_p) j neg_ℚ-zero (neg-joined s.Y (s.F r) (λ i. neg_ℚ (s.F r i)) none_of_p none_of_p (j - s.X) refl (neg-prices (j - s.X - s.Y)))
 
 -- ---- M z
 pub row-x : (s : Costs) (z : ℕ → ℚ) (i : ℕ) → i < s.X → image (size s) (matrix s) z i ≡ (image s.Y s.one (at_y s z) i -ℚ image s.h (transpose s.E) (at_p s z) i) +ℚ image s.h (transpose s.E) (at_p' s z) i

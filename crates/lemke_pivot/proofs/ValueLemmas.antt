@@ -9,18 +9,15 @@ use Rattle.rational.specs.Rational.{ℚ, ◌+ℚ◌, ◌*ℚ◌, neg_ℚ, zero_�
 use Rattle.rational.specs.Sum.{sum_to}
 use Rattle.rational.proofs.RationalRing.{rational_ring}
 use Rattle.rational.proofs.Ring.{ring, num, ◌:+◌, ◌:*◌, :neg, A, B, C, D}
-use Rattle.rational.proofs.SumLemmas.{sum_to-same, sum_to-add, sum_to-zeros}
+use Rattle.rational.proofs.SumLemmas.{sum_to-same, sum_to-add, sum_to-zeros, sum_to-only}
 use Rattle.linear_systems.specs.Tableau.{Tableau, left}
 use Rattle.linear_systems.specs.Rows.{basic_solution, unit_at, HasDistinctVariables}
-use Rattle.linear_systems.proofs.PivotLemmas.{eqb_apart}
-use Rattle.linear_systems.proofs.RowLemmas.{unit_self, unit_other, sum_single}
+use Rattle.linear_systems.proofs.PivotLemmas.{eqb_apart, eqb_same}
+use Rattle.linear_systems.proofs.RowLemmas.{unit_self, unit_other}
 use Rattle.linear_systems.proofs.SolutionLemmas.{basic_sum, sum_elsewhere, solution_elsewhere}
 use Rattle.lemke_pivot.specs.Values.{direction, is_basic}
 
 -- ---- what is basic
-eqb_yes : (v : ℕ) → eqb v v ≡ true
-eqb_yes v = grind (arith, tests)
-
 eqb_out : (u v : ℕ) → eqb u v ≡ true → u ≡ v
 eqb_out u v h = grind (arith, tests)
 
@@ -33,7 +30,7 @@ row_of t v = position_or_len (λ i. eqb (t.basic i) v) (range_with_len 0 t.rows)
 
 pub basic_yes : (t : Tableau) (i : ℕ) → i < t.rows → is_basic t (t.basic i) ≡ true
 basic_yes t i h =
-    list_any_at (λ k. eqb (t.basic k) (t.basic i)) (range_with_len 0 t.rows) i 0 (omega (arith, length-range_with_len 0 t.rows)) (ap (λ k. eqb (t.basic k) (t.basic i)) (row_at t i h) ∙ eqb_yes (t.basic i))
+    list_any_at (λ k. eqb (t.basic k) (t.basic i)) (range_with_len 0 t.rows) i 0 (omega (arith, length-range_with_len 0 t.rows)) (ap (λ k. eqb (t.basic k) (t.basic i)) (row_at t i h) ∙ eqb_same (t.basic i))
 
 pub basic_no : (t : Tableau) (v : ℕ) → ((i : ℕ) → i < t.rows → t.basic i ≢ v) → is_basic t v ≡ false
 basic_no t v h =
@@ -77,7 +74,7 @@ module _ (t : Tableau) (N : HasDistinctVariables t) where
 
   pub left_one : (x : ℕ → ℚ) (i c : ℕ) → c < t.width → ((j : ℕ) → j < t.width → j ≢ c → x (t.nonbasic j) ≡ zero_ℚ) → left t x i ≡ x (t.basic i) +ℚ (t.cell i c *ℚ x (t.nonbasic c))
   unfolding left
-  left_one x i c h z = ap (λ a. x (t.basic i) +ℚ a) (sum_single t.width _ c h (λ j k ne. ap (λ a. t.cell i j *ℚ a) (z j k ne) ∙ ring rational_ring (t.cell i j ∷ []) (A :* num 0) (num 0) refl))
+  left_one x i c h z = ap (λ a. x (t.basic i) +ℚ a) (sum_to-only t.width c _ h (λ j k ne. ap (λ a. t.cell i j *ℚ a) (z j k ne) ∙ ring rational_ring (t.cell i j ∷ []) (A :* num 0) (num 0) refl))
 
   pub direction_basic : (c i : ℕ) → c < t.width → i < t.rows → direction t c (t.basic i) ≡ neg_ℚ (t.cell i c)
   direction_basic c i h k = ap₂ (λ a b. a +ℚ b) (basic_sum t (λ i. neg_ℚ (t.cell i c)) i N k) (unit_other (t.nonbasic c) (t.basic i) (N.apart i c k h)) ∙ ring rational_ring (t.cell i c ∷ []) (:neg A :+ num 0) (:neg A) refl

@@ -4,17 +4,17 @@ use Rattle.std.proofs.lemmas.Bool.{cases_eq, cases_lt}
 use Rattle.std.specs.Result.{OnOk}
 use Rattle.std.specs.declared.result.Result.{Result}
 use Rattle.std.proofs.lemmas.List.{get_or_default, get_or-set_same, get_or-set_other, length-set}
-use Rattle.rational.specs.Rational.{whole, zero_ℚ, ◌*ℚ◌, ◌-ℚ◌, neg_ℚ, inv_ℚ}
+use Rattle.rational.specs.Rational.{whole, zero_ℚ, ◌*ℚ◌, inv_ℚ}
 use Rattle.rational.proofs.RationalRing.{rational_ring}
 use Rattle.rational.proofs.Ring.{ring, num, ◌:*◌}
 use Rattle.rational.proofs.Ring as R
 use Rattle.frac128.specs.Fraction.{PartFits}
-use Rattle.linear_systems.specs.Tableau.{Tableau, pivot}
+use Rattle.linear_systems.specs.Tableau.{pivot}
 use Rattle.linear_systems.specs.Rows.{Alike}
 use Rattle.linear_systems.specs.Lex.{IsLexPositive}
 use Rattle.linear_systems.specs.Rows.{key}
 use Rattle.linear_systems.proofs.LexRowLemmas.{keys_stay_alike}
-use Rattle.linear_systems.proofs.PivotLemmas.{eqb_same, eqb_apart, pivot_solves}
+use Rattle.linear_systems.proofs.PivotLemmas.{pivot_solves, cell_rc, cell_r, cell_c, cell_other, basic_r, basic_other, nonbasic_c, nonbasic_other, right_same, right_other}
 use Rattle.lex_tableau.specs.Ratio.{variable_at, KeepsPositiveKeys}
 use Rattle.linear_systems.proofs.ReachedTableauLemmas.{reached_pivot, reached_alike}
 use Rattle.whole_rows.specs.Rows.{from_place, fraction, IsRow}
@@ -44,38 +44,6 @@ numbers_fit n t k = elim (cases_lt k (length n.numbers)) [ inl l ↦ inside l | 
         let row : k / size < length n.basics = elim (cases_lt (k / size) (length n.basics)) [ inl h ↦ h | inr g ↦ (let m : length n.basics * size ≤ k / size * size = mul-le-mul_right size g in let e : length n.numbers ≡ length n.basics * size = t.shape in absurd (omega arith)) ] in
         subst (λ k. PartFits (get_or n.numbers k (pos 0))) whole_part ((t.rows (k / size) row).fits (k % size) (mod-lt k (omega arith)))
 
--- ---- the cells after a pivot
-module _ (t : Tableau) (r c : ℕ) where
-  cell_rc : (pivot t r c).cell r c ≡ inv_ℚ (t.cell r c)
-  cell_rc = rw (eqb_same r, eqb_same c) refl
-
-  cell_r : (j : ℕ) → j ≢ c → (pivot t r c).cell r j ≡ t.cell r j *ℚ inv_ℚ (t.cell r c)
-  cell_r j n = rw (eqb_same r, eqb_apart j c n) refl
-
-  cell_c : (i : ℕ) → i ≢ r → (pivot t r c).cell i c ≡ neg_ℚ (t.cell i c *ℚ inv_ℚ (t.cell r c))
-  cell_c i n = rw (eqb_apart i r n, eqb_same c) refl
-
-  cell_other : (i j : ℕ) → i ≢ r → j ≢ c → (pivot t r c).cell i j ≡ t.cell i j -ℚ (t.cell i c *ℚ (t.cell r j *ℚ inv_ℚ (t.cell r c)))
-  cell_other i j n m = rw (eqb_apart i r n, eqb_apart j c m) refl
-
-  right_r : (pivot t r c).right r ≡ t.right r *ℚ inv_ℚ (t.cell r c)
-  right_r = rw (eqb_same r) refl
-
-  right_other : (i : ℕ) → i ≢ r → (pivot t r c).right i ≡ t.right i -ℚ (t.cell i c *ℚ (t.right r *ℚ inv_ℚ (t.cell r c)))
-  right_other i n = rw (eqb_apart i r n) refl
-
-  basic_r : (pivot t r c).basic r ≡ t.nonbasic c
-  basic_r = rw (eqb_same r) refl
-
-  basic_other : (i : ℕ) → i ≢ r → (pivot t r c).basic i ≡ t.basic i
-  basic_other i n = rw (eqb_apart i r n) refl
-
-  nonbasic_c : (pivot t r c).nonbasic c ≡ t.basic r
-  nonbasic_c = rw (eqb_same c) refl
-
-  nonbasic_other : (j : ℕ) → j ≢ c → (pivot t r c).nonbasic j ≡ t.nonbasic j
-  nonbasic_other j n = rw (eqb_apart j c n) refl
-
 -- ---- the pivot of a tableau
 module _ (n : WholeTableau) (r c : ℕ) (xs : List ℤ) (t : IsTableau n) (hr : r < n.rated) (hc : c < length n.nonbasics) (ne : (tableau n).cell r c ≢ zero_ℚ) (shape : length xs ≡ length n.numbers) (own : IsPivotRow (length n.nonbasics + 2) (row_of n r) (c + 1) (from_place xs (r * (length n.nonbasics + 2)))) (others : (i : ℕ) → i < length n.basics → i ≢ r → IsPivotedRow (length n.nonbasics + 2) (row_of n i) (row_of n r) (c + 1) (from_place xs (i * (length n.nonbasics + 2)))) where
   abbrev new : WholeTableau
@@ -101,7 +69,7 @@ module _ (n : WholeTableau) (r c : ℕ) (xs : List ℤ) (t : IsTableau n) (hr : 
   cells i j hi hj (inr k) (inr m) = cell_other (tableau n) r c i j k m ∙ sym ((others i hi k).elsewhere (j + 1) (omega arith) (omega arith) (λ e. m (omega (arith, e))))
 
   rights : (i : ℕ) → i < length n.basics → (i ≡ r) ⊎ (i ≢ r) → (pivot (tableau n) r c).right i ≡ fraction (new_row i) (length n.nonbasics + 1)
-  rights i hi (inl a) = subst (λ i. (pivot (tableau n) r c).right i ≡ fraction (new_row i) (length n.nonbasics + 1)) (sym a) (right_r (tableau n) r c ∙ sym (own.elsewhere (length n.nonbasics + 1) (omega arith) (omega arith) (λ e. omega (arith, e, hc))))
+  rights i hi (inl a) = subst (λ i. (pivot (tableau n) r c).right i ≡ fraction (new_row i) (length n.nonbasics + 1)) (sym a) (right_same (tableau n) r c ∙ sym (own.elsewhere (length n.nonbasics + 1) (omega arith) (omega arith) (λ e. omega (arith, e, hc))))
   rights i hi (inr k) = right_other (tableau n) r c i k ∙ sym ((others i hi k).elsewhere (length n.nonbasics + 1) (omega arith) (omega arith) (λ e. omega (arith, e, hc)))
 
   is_row : (i : ℕ) → i < length n.basics → IsRow (length n.nonbasics + 2) (new_row i)

@@ -1,13 +1,13 @@
 -- tableaux of one system with the same basic variables have the same rows
 use Rattle.std.proofs.Common.{ℕ, ◌<◌, ◌≤◌, ◌≡◌, ◌≢◌, refl, sym, ap, ap₂, ◌∙◌, [], ◌∷◌, arith}
-use Rattle.rational.proofs.SumLemmas.{sum_to-zeros}
+use Rattle.rational.proofs.SumLemmas.{sum_to-zeros, sum_to-only}
 use Rattle.rational.specs.Rational.{ℚ, ◌+ℚ◌, ◌*ℚ◌, ◌-ℚ◌, neg_ℚ, zero_ℚ, one_ℚ}
 use Rattle.linear_systems.specs.Tableau.{Tableau}
 use Rattle.rational.proofs.RationalRing.{rational_ring}
 use Rattle.rational.proofs.Ring.{◌times◌is◌, combine, ring, num, ◌:+◌, ◌:*◌, ◌:-◌, :neg, A, B, C}
 use Rattle.linear_systems.specs.Rows.{unit_at, coefficient, key, row}
 use Rattle.linear_systems.specs.Reached.{IsCombination, IsReached, IsStart, HasSameBasis}
-use Rattle.linear_systems.proofs.RowLemmas.{coefficient_row, coefficient_own, coefficient_basic, coefficient_cell, sum_single, key_row, key_at, key_factor}
+use Rattle.linear_systems.proofs.RowLemmas.{coefficient_row, coefficient_own, coefficient_basic, coefficient_cell, key_row, key_at, key_factor}
 use Rattle.linear_systems.proofs.SpanLemmas.{spanned_is, spanned_trans, spanned_mix, spanned_same}
 
 -- a basic variable of t has coefficient 0 in the rows of u that are not its own
@@ -24,7 +24,7 @@ same_row N m s t u i k x y st p q same hi hk e =
     let u_rows : u.rows ≡ s.rows = q.rows in
     let rated : m ≤ s.rows = st.rated in
     spanned_is m t (λ x y. row u x y i) p.proper (omega arith) (spanned_trans m t s (λ x y. row u x y i) p.back (q.from i hi)) x y
-    ∙ sum_single m _ k hk (λ j hj ne. ap (λ v. v *ℚ row t x y j) (coefficient_row u i (t.basic j) ∙ elsewhere N m s t u i j st q same (omega arith) hj (λ f. ne (p.proper.basic_once j k (omega arith) (omega arith) (sym f ∙ e)))) ∙ ring rational_ring (row t x y j ∷ []) (num 0 :* A) (num 0) refl)
+    ∙ sum_to-only m k _ hk (λ j hj ne. ap (λ v. v *ℚ row t x y j) (coefficient_row u i (t.basic j) ∙ elsewhere N m s t u i j st q same (omega arith) hj (λ f. ne (p.proper.basic_once j k (omega arith) (omega arith) (sym f ∙ e)))) ∙ ring rational_ring (row t x y j ∷ []) (num 0 :* A) (num 0) refl)
     ∙ ap (λ v. v *ℚ row t x y k) (coefficient_row u i (t.basic k) ∙ ap (coefficient u i) (sym e) ∙ coefficient_own u i q.proper (omega arith))
     ∙ ring rational_ring (row t x y k ∷ []) (num 1 :* A) A refl
 

@@ -8,18 +8,20 @@ use Rattle.rational.proofs.Ring.{ring, num, ◌:*◌, ◌:-◌, :neg, A, B}
 use Rattle.rational.proofs.Linear.{linear, minus, at, lit, ◌⟨+⟩◌, ◌⟨-⟩◌, ◌⟨≤⟩◌, ◌⟨<⟩◌, ◌⟨=⟩◌}
 use Rattle.rational.proofs.Field.{le_refl, le_or_lt, le_of_lt, lt_irrefl, nonneg-mul, trichotomy}
 use Rattle.rational.proofs.SumLemmas.{sum_to-nonneg, sum_to-zeros, each_zero}
+use Rattle.rational.proofs.InverseLemmas.{zero_lt_one}
+use Rattle.rational.proofs.Rules.{times_zero}
 use Rattle.linear_systems.specs.Tableau.{Tableau}
 use Rattle.linear_systems.specs.Lex.{IsLexLess}
 use Rattle.linear_systems.specs.Rows.{unit_at, basic_solution, coefficient, IsLexicographicRow}
 use Rattle.linear_systems.specs.Reached.{IsVariableOf, in_row, in_column}
 use Rattle.linear_systems.proofs.LexLemmas.{less_trans, less_apart, compare}
 use Rattle.linear_systems.proofs.LexRowLemmas.{lex_row_is}
-use Rattle.linear_systems.proofs.RowLemmas.{times_zero, coefficient_absent, coefficient_cell}
+use Rattle.linear_systems.proofs.RowLemmas.{coefficient_absent, coefficient_cell}
 use Rattle.linear_systems.specs.Points.{IsFeasible, IsExtremePoint, AreEqualAt}
 use Rattle.linear_systems.specs.Reach.{IsFeasibleStart, IsLexReached, IsClosed, HasNeighbour}
 use Rattle.linear_systems.specs.ExtremePointLaws.{HasPoint}
 use Rattle.linear_systems.proofs.SmallStepLemmas.{extreme_alone}
-use Rattle.linear_systems.proofs.SolutionLemmas.{one_positive, rights_nonnegative, solution_basic, solution_nonbasic, solution_point, solves_reached, Standing, in_basis, outside, absent, place}
+use Rattle.linear_systems.proofs.SolutionLemmas.{rights_nonnegative, solution_basic, solution_nonbasic, solution_point, solves_reached, Standing, in_basis, outside, absent, place}
 use Rattle.linear_systems.proofs.WeightLemmas.{reduced, reduced_at, reduced_basic, reduced_key, improves, costs_sum}
 
 -- ---- among finitely many sequences one is lexicographically greatest
@@ -59,7 +61,7 @@ mark_of a (inr (inr l)) = zero_ℚ
 mark_nonnegative : (a : ℚ) (s : (a <ℚ zero_ℚ) ⊎ ((a ≡ zero_ℚ) ⊎ (zero_ℚ <ℚ a))) → zero_ℚ ≤ℚ mark_of a s
 unfolding mark_of
 mark_nonnegative a (inl l) = le_refl zero_ℚ
-mark_nonnegative a (inr (inl e)) = le_of_lt zero_ℚ one_ℚ one_positive
+mark_nonnegative a (inr (inl e)) = le_of_lt zero_ℚ one_ℚ zero_lt_one
 mark_nonnegative a (inr (inr l)) = le_refl zero_ℚ
 
 mark_none : (a : ℚ) (s : (a <ℚ zero_ℚ) ⊎ ((a ≡ zero_ℚ) ⊎ (zero_ℚ <ℚ a))) → mark_of a s *ℚ a ≡ zero_ℚ

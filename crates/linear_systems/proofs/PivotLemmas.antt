@@ -51,6 +51,34 @@ right_same t r c = rw (eqb_same r)
 pub right_other : (t : Tableau) (r c i : ℕ) → i ≢ r → (pivot t r c).right i ≡ t.right i -ℚ (t.cell i c *ℚ (t.right r *ℚ inv_ℚ (t.cell r c)))
 right_other t r c i h = rw (eqb_apart i r h)
 
+-- ---- the cells and the variables after a pivot
+module _ (t : Tableau) (r c : ℕ) where
+  pub cell_rc : (pivot t r c).cell r c ≡ inv_ℚ (t.cell r c)
+  cell_rc = rw (eqb_same r, eqb_same c) refl
+
+  pub cell_r : (j : ℕ) → j ≢ c → (pivot t r c).cell r j ≡ t.cell r j *ℚ inv_ℚ (t.cell r c)
+  cell_r j n = rw (eqb_same r, eqb_apart j c n) refl
+
+  pub cell_c : (i : ℕ) → i ≢ r → (pivot t r c).cell i c ≡ neg_ℚ (t.cell i c *ℚ inv_ℚ (t.cell r c))
+  cell_c i n = rw (eqb_apart i r n, eqb_same c) refl
+
+  pub cell_other : (i j : ℕ) → i ≢ r → j ≢ c → (pivot t r c).cell i j ≡ t.cell i j -ℚ (t.cell i c *ℚ (t.cell r j *ℚ inv_ℚ (t.cell r c)))
+  cell_other i j n m = rw (eqb_apart i r n, eqb_apart j c m) refl
+
+  pub basic_r : (pivot t r c).basic r ≡ t.nonbasic c
+  basic_r = rw (eqb_same r) refl
+
+  pub basic_other : (i : ℕ) → i ≢ r → (pivot t r c).basic i ≡ t.basic i
+  basic_other i n = rw (eqb_apart i r n) refl
+
+  pub nonbasic_c : (pivot t r c).nonbasic c ≡ t.basic r
+  nonbasic_c = rw (eqb_same c) refl
+
+  pub nonbasic_other : (j : ℕ) → j ≢ c → (pivot t r c).nonbasic j ≡ t.nonbasic j
+  nonbasic_other j n = rw (eqb_apart j c n) refl
+
+-- ---- what a pivot keeps
+
 pub pivot_keeps : (t : Tableau) (x : ℕ → ℚ) (r c : ℕ) → r < t.rows → c < t.width → t.cell r c ≢ zero_ℚ → Solves t x ↔ Solves (pivot t r c) x
 pivot_keeps t x r c hr hc ne = (to, from)
   where

@@ -1,15 +1,15 @@
 -- The rows of a tableau as functions of all variables, and what a pivot makes of them
-use Rattle.std.proofs.Common.{ℕ, suc, zero, ◌<◌, ◌≡◌, ◌≢◌, refl, sym, ap, ap₂, ◌∙◌, [], ◌∷◌, arith, inl, inr, eq-or-lt_of_le, le_of_suc-le-suc}
+use Rattle.std.proofs.Common.{ℕ, suc, zero, ◌<◌, ◌≡◌, ◌≢◌, refl, sym, ap, ap₂, ◌∙◌, [], ◌∷◌, inl, inr}
 use Rattle.std.proofs.lemmas.Bool.{cases_eq}
 use Rattle.rational.proofs.Field.{le_of_lt, le_refl}
-use Rattle.rational.proofs.InverseLemmas.{one_pos}
-use Rattle.rational.proofs.Rules.{times_one}
+use Rattle.rational.proofs.Rules.{times_one, times_zero}
 use Rattle.rational.specs.Rational.{ℚ, ◌+ℚ◌, ◌*ℚ◌, ◌-ℚ◌, inv_ℚ, zero_ℚ, one_ℚ, ◌≤ℚ◌}
 use Rattle.rational.specs.Sum.{sum_to}
 use Rattle.linear_systems.specs.Tableau.{Tableau, left, pivot}
 use Rattle.rational.proofs.RationalRing.{rational_ring}
 use Rattle.rational.proofs.Ring.{ring, num, ◌:+◌, ◌:*◌, ◌:-◌, A, B, C, D, E, F, G}
-use Rattle.rational.proofs.SumLemmas.{sum_to-same, sum_to-zeros}
+use Rattle.rational.proofs.SumLemmas.{sum_to-same, sum_to-zeros, sum_to-only}
+use Rattle.rational.proofs.InverseLemmas.{zero_lt_one}
 use Rattle.linear_systems.proofs.PivotLemmas.{eqb_same, eqb_apart, pivot_row, other_row, right_same, right_other}
 use Rattle.linear_systems.specs.Rows.{unit_at, coefficient, key, row, HasDistinctVariables, Alike}
 
@@ -36,23 +36,9 @@ unit_other v w h = rw (eqb_apart w v h)
 
 -- a unit has no negative entry
 pub unit_nonneg : (v w : ℕ) → zero_ℚ ≤ℚ unit_at v w
-unit_nonneg v w = elim (cases_eq w v) [ inl e ↦ rw (e, unit_self v) (le_of_lt zero_ℚ one_ℚ one_pos) | inr n ↦ rw (unit_other v w n) (le_refl zero_ℚ) ]
-
-pub sum_single : (n : ℕ) (f : ℕ → ℚ) (c : ℕ) → c < n → ((j : ℕ) → j < n → j ≢ c → f j ≡ zero_ℚ) → sum_to n f ≡ f c
-sum_single zero f c h z = absurd (omega arith)
-sum_single (suc n) f c h z = elim (eq-or-lt_of_le (le_of_suc-le-suc h)) [ inl e ↦ here e | inr l ↦ below l (sum_single n f c l (λ j p. z j (omega arith))) ]
-  where
-    here : c ≡ n → sum_to n f +ℚ f n ≡ f c
-    here e =
-        ap₂ (λ x k. x +ℚ f k) (sum_to-zeros n f (λ j p. z j (omega arith) (omega arith))) (sym e) ∙ ring rational_ring (f c ∷ []) (num 0 :+ A) A refl
-
-    below : c < n → sum_to n f ≡ f c → sum_to n f +ℚ f n ≡ f c
-    below l e = ap₂ (λ x y. x +ℚ y) e (z n (omega arith) (omega arith)) ∙ ring rational_ring (f c ∷ []) (A :+ num 0) A refl
+unit_nonneg v w = elim (cases_eq w v) [ inl e ↦ rw (e, unit_self v) (le_of_lt zero_ℚ one_ℚ zero_lt_one) | inr n ↦ rw (unit_other v w n) (le_refl zero_ℚ) ]
 
 -- ---- the coefficient of a variable
-pub times_zero : (a b : ℚ) → b ≡ zero_ℚ → a *ℚ b ≡ zero_ℚ
-times_zero a b e = ap (λ x. a *ℚ x) e ∙ ring rational_ring (a ∷ []) (A :* num 0) (num 0) refl
-
 pub coefficient_own : (t : Tableau) (i : ℕ) → HasDistinctVariables t → i < t.rows → coefficient t i (t.basic i) ≡ one_ℚ
 unfolding left
 coefficient_own t i p h =
@@ -68,7 +54,7 @@ coefficient_basic t i k p hi hk ne =
 pub coefficient_cell : (t : Tableau) (i j : ℕ) → HasDistinctVariables t → i < t.rows → j < t.width → coefficient t i (t.nonbasic j) ≡ t.cell i j
 unfolding left
 coefficient_cell t i j p hi hj =
-    ap₂ (λ x y. x +ℚ y) (unit_other (t.nonbasic j) (t.basic i) (p.apart i j hi hj)) (sum_single t.width _ j hj (λ k l ne. times_zero (t.cell i k) _ (unit_other (t.nonbasic j) (t.nonbasic k) (λ e. ne (p.nonbasic_once k j l hj e)))) ∙ times_one (t.cell i j) _ (unit_self (t.nonbasic j)))
+    ap₂ (λ x y. x +ℚ y) (unit_other (t.nonbasic j) (t.basic i) (p.apart i j hi hj)) (sum_to-only t.width j _ hj (λ k l ne. times_zero (t.cell i k) _ (unit_other (t.nonbasic j) (t.nonbasic k) (λ e. ne (p.nonbasic_once k j l hj e)))) ∙ times_one (t.cell i j) _ (unit_self (t.nonbasic j)))
     ∙ ring rational_ring (t.cell i j ∷ []) (num 0 :+ A) A refl
 
 -- a variable that the tableau does not have

@@ -5,21 +5,18 @@ use Rattle.std.proofs.lemmas.Bool.{cases_eq}
 use Rattle.rational.specs.Rational.{ℚ, ◌+ℚ◌, ◌*ℚ◌, neg_ℚ, zero_ℚ, one_ℚ, ◌≤ℚ◌, ◌<ℚ◌}
 use Rattle.rational.proofs.RationalRing.{rational_ring}
 use Rattle.rational.proofs.Ring.{ring, combine, ◌times◌is◌, num, ◌:+◌, ◌:*◌, :neg, A, B}
-use Rattle.rational.proofs.Linear.{linear, at, lit, ◌⟨+⟩◌, ◌⟨≤⟩◌, ◌⟨<⟩◌, ◌⟨=⟩◌}
+use Rattle.rational.proofs.Linear.{linear, at, lit, ◌⟨+⟩◌, ◌⟨≤⟩◌, ◌⟨=⟩◌}
 use Rattle.rational.proofs.Field.{le_refl, le_of_lt}
-use Rattle.rational.proofs.Rules.{times_one}
+use Rattle.rational.proofs.Rules.{times_one, times_zero}
 use Rattle.rational.specs.Sum.{sum_to}
-use Rattle.rational.proofs.SumLemmas.{sum_to-zeros}
+use Rattle.rational.proofs.SumLemmas.{sum_to-zeros, sum_to-only}
 use Rattle.linear_systems.specs.Tableau.{Tableau, left, Solves}
 use Rattle.linear_systems.specs.Lex.{IsLexPositive}
 use Rattle.linear_systems.specs.Rows.{unit_at, basic_solution, row, key, HasDistinctVariables}
 use Rattle.linear_systems.specs.Reached.{IsCombination, IsReached, IsVariableOf, in_row, in_column}
-use Rattle.linear_systems.proofs.RowLemmas.{unit_self, unit_other, sum_single, times_zero}
+use Rattle.linear_systems.proofs.RowLemmas.{unit_self, unit_other}
 use Rattle.linear_systems.specs.Points.{IsFeasible, IsExtremePoint, AreEqualAt}
 use Rattle.linear_systems.specs.Reach.{IsLexReached}
-
-pub one_positive : zero_ℚ <ℚ one_ℚ
-one_positive = linear [] [] (lit (pos 0) ⟨<⟩ lit (pos 1)) (λ one z u v. omega (arith, ints)) tt
 
 -- ---- solutions, from the start to a reached tableau and back
 row_at_solution : (t : Tableau) (x : ℕ → ℚ) (i : ℕ) → left t x i ≡ t.right i → row t x (neg_ℚ one_ℚ) i ≡ zero_ℚ
@@ -46,7 +43,7 @@ solves_start N s t x p h i hi =
 -- a sum over the rows, in which only that of the variable counts
 pub basic_sum : (t : Tableau) (f : ℕ → ℚ) (i : ℕ) → HasDistinctVariables t → i < t.rows → sum_to t.rows (λ k. f k *ℚ unit_at (t.basic i) (t.basic k)) ≡ f i
 basic_sum t f i p hi =
-    sum_single t.rows _ i hi (λ k hk ne. times_zero (f k) _ (unit_other (t.basic i) (t.basic k) (λ e. ne (p.basic_once k i hk hi e)))) ∙ times_one (f i) _ (unit_self (t.basic i))
+    sum_to-only t.rows i _ hi (λ k hk ne. times_zero (f k) _ (unit_other (t.basic i) (t.basic k) (λ e. ne (p.basic_once k i hk hi e)))) ∙ times_one (f i) _ (unit_self (t.basic i))
 
 pub sum_elsewhere : (t : Tableau) (f : ℕ → ℚ) (v : ℕ) → ((i : ℕ) → i < t.rows → t.basic i ≢ v) → sum_to t.rows (λ k. f k *ℚ unit_at v (t.basic k)) ≡ zero_ℚ
 sum_elsewhere t f v h = sum_to-zeros t.rows _ (λ i hi. times_zero (f i) _ (unit_other v (t.basic i) (h i hi)))

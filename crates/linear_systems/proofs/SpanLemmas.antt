@@ -5,10 +5,11 @@ use Rattle.rational.specs.Sum.{sum_to}
 use Rattle.linear_systems.specs.Tableau.{Tableau}
 use Rattle.rational.proofs.RationalRing.{rational_ring}
 use Rattle.rational.proofs.Ring.{ring, num, ◌:+◌, ◌:*◌, A, B, C, D}
-use Rattle.rational.proofs.SumLemmas.{sum_to-same, sum_to-add, sum_to-scale, sum_to-zeros}
+use Rattle.rational.proofs.SumLemmas.{sum_to-same, sum_to-add, sum_to-scale, sum_to-zeros, sum_to-only}
+use Rattle.rational.proofs.Rules.{times_zero}
 use Rattle.linear_systems.specs.Rows.{unit_at, row, HasDistinctVariables}
 use Rattle.linear_systems.specs.Reached.{IsCombination}
-use Rattle.linear_systems.proofs.RowLemmas.{unit_self, unit_other, sum_single, times_zero, coefficient_own, coefficient_basic, coefficient_row}
+use Rattle.linear_systems.proofs.RowLemmas.{unit_self, unit_other, coefficient_own, coefficient_basic, coefficient_row}
 
 pub spanned_same : (n : ℕ) (t : Tableau) (f g : (ℕ → ℚ) → ℚ → ℚ) → ((x : ℕ → ℚ) (y : ℚ) → f x y ≡ g x y) → IsCombination n t f → IsCombination n t g
 spanned_same n t f g e p = record { by = p.by; same = λ x y. sym (e x y) ∙ p.same x y }
@@ -21,7 +22,7 @@ pub spanned_row : (n : ℕ) (t : Tableau) (k : ℕ) → k < n → IsCombination 
 spanned_row n t k h =
     record {
       by = unit_at k;
-      same = λ x y. sym (sum_single n (λ q. unit_at k q *ℚ row t x y q) k h (λ q p ne. ap (λ u. u *ℚ row t x y q) (unit_other k q ne) ∙ ring rational_ring (row t x y q ∷ []) (num 0 :* A) (num 0) refl) ∙ ap (λ u. u *ℚ row t x y k) (unit_self k) ∙ ring rational_ring (row t x y k ∷ []) (num 1 :* A) A refl);
+      same = λ x y. sym (sum_to-only n k (λ q. unit_at k q *ℚ row t x y q) h (λ q p ne. ap (λ u. u *ℚ row t x y q) (unit_other k q ne) ∙ ring rational_ring (row t x y q ∷ []) (num 0 :* A) (num 0) refl) ∙ ap (λ u. u *ℚ row t x y k) (unit_self k) ∙ ring rational_ring (row t x y k ∷ []) (num 1 :* A) A refl);
     }
 
 -- f and a multiple of g
@@ -47,7 +48,7 @@ spanned_trans n s t f h p = spanned_same n s _ f (λ x y. sym (p.same x y)) (spa
 -- the multipliers are the values at the rows' own basic variables
 pub spanned_by : (n : ℕ) (t : Tableau) (f : (ℕ → ℚ) → ℚ → ℚ) → HasDistinctVariables t → n ≤ t.rows → (p : IsCombination n t f) → (q : ℕ) → q < n → p.by q ≡ f (unit_at (t.basic q)) zero_ℚ
 spanned_by n t f pr hn p q h =
-    sym (p.same (unit_at (t.basic q)) zero_ℚ ∙ sum_single n _ q h (λ i hi ne. times_zero (p.by i) _ (coefficient_row t i (t.basic q) ∙ coefficient_basic t i q pr (omega arith) (omega arith) ne)) ∙ ap (λ u. p.by q *ℚ u) (coefficient_row t q (t.basic q) ∙ coefficient_own t q pr (omega arith)) ∙ ring rational_ring (p.by q ∷ []) (A :* num 1) A refl)
+    sym (p.same (unit_at (t.basic q)) zero_ℚ ∙ sum_to-only n q _ h (λ i hi ne. times_zero (p.by i) _ (coefficient_row t i (t.basic q) ∙ coefficient_basic t i q pr (omega arith) (omega arith) ne)) ∙ ap (λ u. p.by q *ℚ u) (coefficient_row t q (t.basic q) ∙ coefficient_own t q pr (omega arith)) ∙ ring rational_ring (p.by q ∷ []) (A :* num 1) A refl)
 
 pub spanned_is : (n : ℕ) (t : Tableau) (f : (ℕ → ℚ) → ℚ → ℚ) → HasDistinctVariables t → n ≤ t.rows → IsCombination n t f → (x : ℕ → ℚ) (y : ℚ) → f x y ≡ sum_to n (λ q. f (unit_at (t.basic q)) zero_ℚ *ℚ row t x y q)
 spanned_is n t f pr hn p x y = p.same x y ∙ sum_to-same n _ _ (λ q h. ap (λ u. u *ℚ row t x y q) (spanned_by n t f pr hn p q h))

@@ -6,7 +6,7 @@ use Rattle.linear_systems.specs.Tableau.{Tableau, pivot}
 use Rattle.linear_systems.specs.Lex.{IsLexPositive}
 use Rattle.linear_systems.specs.Rows.{key, IsLexicographicRow, Alike}
 use Rattle.std.proofs.lemmas.Bool.{cases_eq}
-use Rattle.rational.proofs.InverseLemmas.{ne_zero_of_pos}
+use Rattle.rational.proofs.InverseLemmas.{ne_zero_of_pos, zero_lt_one}
 use Rattle.linear_systems.specs.Reached.{IsVariableOf, in_row, in_column}
 use Rattle.linear_systems.proofs.PivotLemmas.{eqb_same, eqb_apart}
 use Rattle.linear_systems.proofs.LexLemmas.{lex_same}
@@ -14,7 +14,6 @@ use Rattle.linear_systems.proofs.LexRowLemmas.{keys_stay_alike}
 use Rattle.linear_systems.proofs.ReachedTableauLemmas.{reached_start, reached_pivot, reached_alike}
 use Rattle.linear_systems.proofs.RowLemmas.{key_alike, coefficient_own, coefficient_basic}
 use Rattle.linear_systems.specs.Reach.{IsFeasibleStart, IsLexReached}
-use Rattle.linear_systems.proofs.SolutionLemmas.{one_positive}
 
 start_keys : (N : ℕ) (s : Tableau) (i : ℕ) → IsFeasibleStart N s → i < s.rows → IsLexPositive (suc s.rows) (key s.basic s i)
 start_keys N s i st hi = go (eq_or_lt_of_le zero_ℚ (s.right i) (st.right i hi))
@@ -24,7 +23,7 @@ start_keys N s i st hi = go (eq_or_lt_of_le zero_ℚ (s.right i) (st.right i hi)
     before e (suc k) h = coefficient_basic s i k st.start.proper hi (omega arith) (omega arith)
 
     go : (zero_ℚ ≡ s.right i) ⊎ (zero_ℚ <ℚ s.right i) → IsLexPositive (suc s.rows) (key s.basic s i)
-    go (inl e) = record { place = suc i; within = omega arith; before = before e; above = subst (λ a. zero_ℚ <ℚ a) (sym (coefficient_own s i st.start.proper hi)) one_positive }
+    go (inl e) = record { place = suc i; within = omega arith; before = before e; above = subst (λ a. zero_ℚ <ℚ a) (sym (coefficient_own s i st.start.proper hi)) zero_lt_one }
     go (inr l) = record { place = 0; within = omega arith; before = λ j h. absurd (omega arith); above = l }
 
 -- the variables stay

@@ -1,10 +1,11 @@
 -- A solution has one mark, and a system one list of vertices.
-use Rattle.std.proofs.Common.{ℕ, zero, suc, ◌+◌, ◌-◌, ◌<◌, ◌≡◌, ◌⊎◌, inl, inr, min, List, [], ◌∷◌, length, get_or, Contains, refl, sym, ap, ap₂, ◌∙◌, subst, arith}
+use Rattle.std.proofs.Common.{ℕ, suc, ◌+◌, ◌-◌, ◌<◌, ◌≡◌, inl, inr, min, List, [], length, get_or, Contains, refl, sym, ap, ap₂, ◌∙◌, subst, arith}
 use Rattle.std.specs.Int.{bit_at}
 use Rattle.std.proofs.lemmas.Bool.{cases_eq, cases_order}
 use Rattle.std.proofs.lemmas.List.{ext_get_or}
 use Rattle.std.proofs.lemmas.List.Elements.{All-contains}
 use Rattle.std.proofs.lemmas.Nat.Bits.{bit_at-lt, same_from_bits_below}
+use Rattle.lists.proofs.ElementLemmas.{determined_by-members}
 use Rattle.rational.specs.Rational.{ℚ, zero_ℚ}
 use Rattle.linear_systems.specs.Tableau.{Tableau}
 use Rattle.linear_systems.specs.Vertices.{IsZeroWord, MarkedPoint, IsMarkOf, IsVertexMark, mask_of, AreVertices}
@@ -57,41 +58,6 @@ place_once list up i j d hi hj e = elim (cases_order i j) [
   | inr o ↦ elim o [ inl l ↦ absurd (omega (arith, up i j d l hj, e)) | inr l ↦ absurd (omega (arith, up j i d l hi, e)) ]
 ]
 
-ascending_rest : (x : MarkedPoint) (xs : List MarkedPoint) → AreAscending (x ∷ xs) → AreAscending xs
-ascending_rest x xs h i j d l b = h (suc i) (suc j) d (omega arith) (omega arith)
-
--- the first mask is less than that of each member of the rest
-ascending_member : (x : MarkedPoint) (xs : List MarkedPoint) (z : MarkedPoint) → AreAscending (x ∷ xs) → Contains xs z → mask_of x < mask_of z
-ascending_member x xs z h c = subst (λ v. mask_of x < mask_of v) c.2 (h 0 (suc c.0) z (omega arith) (omega (arith, c.1)))
-
--- a member is the first or one of the rest
-member_cases : (x : MarkedPoint) (xs : List MarkedPoint) (z : MarkedPoint) → Contains (x ∷ xs) z → (x ≡ z) ⊎ Contains xs z
-member_cases x xs z (zero, l, e) = inl e
-member_cases x xs z (suc k, l, e) = inr (k, omega arith, e)
-
-member_later : (x : MarkedPoint) (xs : List MarkedPoint) (z : MarkedPoint) → Contains xs z → Contains (x ∷ xs) z
-member_later x xs z c = (suc c.0, omega (arith, c.1), c.2)
-
--- two ascending lists with the same members begin alike
-firsts_same : (x : MarkedPoint) (xs : List MarkedPoint) (y : MarkedPoint) (ys : List MarkedPoint) → AreAscending (x ∷ xs) → AreAscending (y ∷ ys) → (y ≡ x) ⊎ Contains ys x → (x ≡ y) ⊎ Contains xs y → x ≡ y
-firsts_same x xs y ys o p (inl e) d = sym e
-firsts_same x xs y ys o p (inr c) (inl e) = e
-firsts_same x xs y ys o p (inr c) (inr d) = absurd (omega (arith, ascending_member x xs y o d, ascending_member y ys x p c))
-
--- and a member of the rest of one is a member of the rest of the other
-rest_member : (x : MarkedPoint) (xs : List MarkedPoint) (y : MarkedPoint) (ys : List MarkedPoint) (z : MarkedPoint) → AreAscending (x ∷ xs) → x ≡ y → Contains xs z → (y ≡ z) ⊎ Contains ys z → Contains ys z
-rest_member x xs y ys z o e c (inr d) = d
-rest_member x xs y ys z o e c (inl f) = absurd (omega (arith, ascending_member x xs z o c, ap mask_of (e ∙ f)))
-
--- two ascending lists with the same members are equal
-ascending_determined : (a b : List MarkedPoint) → AreAscending a → AreAscending b → ((z : MarkedPoint) → Contains a z → Contains b z) → ((z : MarkedPoint) → Contains b z → Contains a z) → a ≡ b
-ascending_determined [] [] o p f g = refl
-ascending_determined [] (y ∷ ys) o p f g = let c = g y (0, omega arith, refl) in absurd (omega (arith, c.1))
-ascending_determined (x ∷ xs) [] o p f g = let c = f x (0, omega arith, refl) in absurd (omega (arith, c.1))
-ascending_determined (x ∷ xs) (y ∷ ys) o p f g =
-    let e : x ≡ y = firsts_same x xs y ys o p (member_cases y ys x (f x (0, omega arith, refl))) (member_cases x xs y (g y (0, omega arith, refl))) in
-    ap₂ (λ v w. v ∷ w) e (ascending_determined xs ys (ascending_rest x xs o) (ascending_rest y ys p) (λ z c. rest_member x xs y ys z o e c (member_cases y ys z (f z (member_later x xs z c)))) (λ z c. rest_member y ys x xs z p (sym e) c (member_cases x xs z (g z (member_later y ys z c)))))
-
 -- ---- lists of vertices
 -- each mark of one list stands in any other
 vertices_within : (n : ℕ) (s : Tableau) (a b : List MarkedPoint) → AreVertices n s a → AreVertices n s b → (z : MarkedPoint) → Contains a z → Contains b z
@@ -102,4 +68,4 @@ vertices_within n s a b p q z c =
 
 pub vertices_determined : OneListOfVertices
 vertices_determined n s a b p q =
-    ascending_determined a b p.ascending q.ascending (vertices_within n s a b p q) (vertices_within n s b a q p)
+    determined_by-members (λ x y. mask_of x < mask_of y) a b (λ x y l k. omega (arith, l, k)) p.ascending q.ascending (vertices_within n s a b p q) (vertices_within n s b a q p)

@@ -1,7 +1,7 @@
 -- A weight for each variable, and what is left of their sum when each basic variable's weight is taken away by its row
 use Rattle.std.proofs.Common.{ℕ, pos, suc, ◌<◌, ◌≡◌, refl, sym, ap, ap₂, ◌∙◌, subst, [], ◌∷◌, arith}
 use Rattle.std.proofs.lemmas.Int.{ints}
-use Rattle.rational.proofs.Rules.{times_one}
+use Rattle.rational.proofs.Rules.{times_one, times_zero}
 use Rattle.rational.proofs.InverseLemmas.{ne_zero_of_pos, inv_pos}
 use Rattle.rational.specs.Rational.{ℚ, ◌+ℚ◌, ◌*ℚ◌, ◌-ℚ◌, neg_ℚ, inv_ℚ, zero_ℚ, one_ℚ, ◌<ℚ◌}
 use Rattle.rational.specs.Sum.{sum_to}
@@ -9,13 +9,13 @@ use Rattle.rational.proofs.RationalRing.{rational_ring}
 use Rattle.rational.proofs.Ring.{ring, combine, ◌times◌is◌, num, ◌:+◌, ◌:*◌, ◌:-◌, :neg, A, B, C, D, E}
 use Rattle.rational.proofs.Linear.{linear, minus, at, lit, ◌⟨<⟩◌}
 use Rattle.rational.proofs.Field.{pos-mul, *ℚ-inv}
-use Rattle.rational.proofs.SumLemmas.{sum_to-same, sum_to-add, sum_to-scale, sum_to-exchange}
+use Rattle.rational.proofs.SumLemmas.{sum_to-same, sum_to-add, sum_to-scale, sum_to-exchange, sum_to-only}
 use Rattle.linear_systems.specs.Tableau.{Tableau, left}
 use Rattle.linear_systems.specs.Lex.{IsLexLess}
 use Rattle.linear_systems.specs.Rows.{unit_at, coefficient, key, row}
 use Rattle.linear_systems.specs.Reached.{IsCombination, IsReached}
 use Rattle.linear_systems.proofs.LexLemmas.{lex_same, lex_scale}
-use Rattle.linear_systems.proofs.RowLemmas.{unit_self, unit_other, sum_single, times_zero, coefficient_own, coefficient_basic, coefficient_cell, coefficient_row, key_row, key_at, key_factor}
+use Rattle.linear_systems.proofs.RowLemmas.{unit_self, unit_other, coefficient_own, coefficient_basic, coefficient_cell, coefficient_row, key_row, key_at, key_factor}
 use Rattle.linear_systems.proofs.SpanLemmas.{spanned_same, spanned_mix, spanned_trans, spanned_is}
 use Rattle.linear_systems.specs.Reach.{IsLexReached, IsBasic, IsNeighbour}
 
@@ -26,14 +26,14 @@ reduced N w t x y = sum_to N (λ v. w v *ℚ x v) -ℚ sum_to t.rows (λ i. w (t
 -- at a single variable
 pub reduced_at : (N : ℕ) (w : ℕ → ℚ) (t : Tableau) (v : ℕ) → v < N → reduced N w t (unit_at v) zero_ℚ ≡ w v -ℚ sum_to t.rows (λ i. w (t.basic i) *ℚ coefficient t i v)
 reduced_at N w t v h =
-    ap₂ (λ a b. a -ℚ b) (sum_single N _ v h (λ u hu ne. times_zero (w u) _ (unit_other v u ne)) ∙ times_one (w v) _ (unit_self v)) (sum_to-same t.rows _ _ (λ i hi. ap (λ a. w (t.basic i) *ℚ a) (coefficient_row t i v)))
+    ap₂ (λ a b. a -ℚ b) (sum_to-only N v _ h (λ u hu ne. times_zero (w u) _ (unit_other v u ne)) ∙ times_one (w v) _ (unit_self v)) (sum_to-same t.rows _ _ (λ i hi. ap (λ a. w (t.basic i) *ℚ a) (coefficient_row t i v)))
 
 -- which is 0 where the variable is basic
 pub reduced_basic : (N : ℕ) (w : ℕ → ℚ) (s t : Tableau) (k : ℕ) → IsReached N s.rows s t → k < t.rows → reduced N w t (unit_at (t.basic k)) zero_ℚ ≡ zero_ℚ
 reduced_basic N w s t k p hk =
     let rows : t.rows ≡ s.rows = p.rows in
     reduced_at N w t (t.basic k) (p.basic_below k (omega arith))
-    ∙ ap (λ a. w (t.basic k) -ℚ a) (sum_single t.rows _ k hk (λ i hi ne. times_zero (w (t.basic i)) _ (coefficient_basic t i k p.proper hi hk ne)) ∙ times_one (w (t.basic k)) _ (coefficient_own t k p.proper hk))
+    ∙ ap (λ a. w (t.basic k) -ℚ a) (sum_to-only t.rows k _ hk (λ i hi ne. times_zero (w (t.basic i)) _ (coefficient_basic t i k p.proper hi hk ne)) ∙ times_one (w (t.basic k)) _ (coefficient_own t k p.proper hk))
     ∙ ring rational_ring (w (t.basic k) ∷ []) (A :- A) (num 0) refl
 
 pub reduced_of : (N : ℕ) (w : ℕ → ℚ) (s u : Tableau) (v : ℕ) → IsReached N s.rows s u → IsBasic u v → reduced N w u (unit_at v) zero_ℚ ≡ zero_ℚ
@@ -53,7 +53,7 @@ gap_is N w s t u r c x y p q hr near =
     let rows : t.rows ≡ s.rows = p.rows in
     let at : (k : ℕ) → k < s.rows → reduced N w u (unit_at (t.basic k)) zero_ℚ -ℚ reduced N w t (unit_at (t.basic k)) zero_ℚ ≡ reduced N w u (unit_at (t.basic k)) zero_ℚ = λ k hk. ap (λ a. reduced N w u (unit_at (t.basic k)) zero_ℚ -ℚ a) (reduced_basic N w s t k p (omega arith)) ∙ ring rational_ring (reduced N w u (unit_at (t.basic k)) zero_ℚ ∷ []) (A :- num 0) A refl in
     spanned_is s.rows t (λ x y. reduced N w u x y -ℚ reduced N w t x y) p.proper (omega arith) (gap N w s t u p q) x y
-    ∙ sum_single s.rows _ r hr (λ k hk ne. ap (λ a. a *ℚ row t x y k) (at k hk ∙ reduced_of N w s u (t.basic k) q (near.stayed k (omega arith) ne)) ∙ ring rational_ring (row t x y k ∷ []) (num 0 :* A) (num 0) refl)
+    ∙ sum_to-only s.rows r _ hr (λ k hk ne. ap (λ a. a *ℚ row t x y k) (at k hk ∙ reduced_of N w s u (t.basic k) q (near.stayed k (omega arith) ne)) ∙ ring rational_ring (row t x y k ∷ []) (num 0 :* A) (num 0) refl)
     ∙ ap (λ a. a *ℚ row t x y r) (at r hr)
 
 -- the key of what is left
@@ -76,7 +76,7 @@ improves N w s t u r c p q hr hc hpos near neg =
 
 -- ---- the left side of a row, variable by variable
 pick : (N b : ℕ) (x : ℕ → ℚ) → b < N → sum_to N (λ v. x v *ℚ unit_at v b) ≡ x b
-pick N b x h = sum_single N _ b h (λ v hv ne. times_zero (x v) _ (unit_other v b (λ e. ne (sym e)))) ∙ times_one (x b) _ (unit_self b)
+pick N b x h = sum_to-only N b _ h (λ v hv ne. times_zero (x v) _ (unit_other v b (λ e. ne (sym e)))) ∙ times_one (x b) _ (unit_self b)
 
 pub left_expand : (N : ℕ) (t : Tableau) (x : ℕ → ℚ) (i : ℕ) → t.basic i < N → ((j : ℕ) → j < t.width → t.nonbasic j < N) → sum_to N (λ v. x v *ℚ coefficient t i v) ≡ left t x i
 unfolding left

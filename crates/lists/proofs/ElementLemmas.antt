@@ -1,17 +1,41 @@
 -- Lists and their elements.
-use Rattle.std.proofs.Common.{◌≡◌, ℕ, zero, suc, ◌+◌, ◌<◌, ◌⊎◌, inl, inr, Bool, false, Some, List, [], ◌∷◌, ◌++◌, length, get_or, set, slice_get, replicate, refl, sym, ap, ◌∙◌, subst, append_assoc, add-zero, zero-add, arith}
+use Rattle.std.proofs.Common.{◌≡◌, ℕ, zero, suc, ◌+◌, ◌<◌, ◌⊎◌, inl, inr, Bool, false, Some, List, [], ◌∷◌, ◌++◌, length, get_or, set, slice_get, replicate, refl, sym, ap, ◌∙◌, subst, append_assoc, add-zero, zero-add, arith, ap₂, ◌≤◌, map}
 use Rattle.std.specs.Prelude.{All, Contains, filter}
-use Rattle.std.specs.List.{range_with_len, flat_map}
+use Rattle.std.specs.List.{range_with_len, flat_map, AllPairs, AllByRecursion}
 use Rattle.std.proofs.lemmas.Bool.{cases_lt}
 use Rattle.std.proofs.lemmas.Option.{same_Some, slice_get_within, get_or_from_slice_get}
-use Rattle.std.proofs.lemmas.List.{append-nil, get_or-replicate, get_or_default, get_or_past, length-replicate}
-use Rattle.std.proofs.lemmas.List.Elements.{All-nil, All-cons, All-head, All-tail}
+use Rattle.std.proofs.lemmas.List.{append-nil, get_or-replicate, get_or_default, get_or_past, length-replicate, get_or-map}
+use Rattle.std.proofs.lemmas.List.Elements.{All-nil, All-cons, All-head, All-tail, All-append}
+use Rattle.std.proofs.lemmas.List.Kept.{AllPairs-cons}
 
 -- the element at a place of a list
 pub element : {A : Type 0} (xs : List A) (k : ℕ) → k < length xs → (x : A) × (slice_get xs k ≡ Some x)
 element [] k below = absurd (omega arith)
 element (x ∷ xs) zero below = (x, refl)
 element (x ∷ xs) (suc k) below = element xs k (omega arith)
+
+-- ---- members
+-- the first element is a member
+pub first_in : {X : Type 0} (x : X) (xs : List X) → Contains (x ∷ xs) x
+first_in x xs = (0, omega arith, refl)
+
+-- a member of the rest is a member
+pub rest_in : {X : Type 0} (x v : X) (xs : List X) → Contains xs v → Contains (x ∷ xs) v
+rest_in x v xs h = (suc h.0, omega (arith, h.1), h.2)
+
+-- a member is the first element or one of the rest
+pub in_cases : {X : Type 0} (x v : X) (xs : List X) → Contains (x ∷ xs) v → (x ≡ v) ⊎ (Contains xs v)
+in_cases x v xs (zero, l, e) = inl e
+in_cases x v xs (suc k, l, e) = inr (k, omega arith, e)
+
+-- a value of a list's elements is that of an element, and the other way round
+pub mapped : {X Y : Type 0} (f : X → Y) (x : X) (xs : List X) → Contains xs x → Contains (map f xs) (f x)
+mapped f x [] h = absurd (omega (arith, h.1))
+mapped f x (y ∷ ys) h = elim (in_cases y x ys h) [ inl e ↦ subst (λ y. Contains (f y ∷ map f ys) (f x)) (sym e) (first_in (f x) (map f ys)) | inr t ↦ rest_in (f y) (f x) (map f ys) (mapped f x ys t) ]
+
+pub unmapped : {X Y : Type 0} (f : X → Y) (v : Y) (xs : List X) → Contains (map f xs) v → (x : X) × Contains xs x × (f x ≡ v)
+unmapped f v [] h = absurd (omega (arith, h.1))
+unmapped f v (y ∷ ys) h = elim (in_cases (f y) v (map f ys) h) [ inl e ↦ (y, first_in y ys, e) | inr t ↦ (let z = unmapped f v ys t in (z.0, rest_in y z.0 ys z.1, z.2)) ]
 
 -- where a number stands in a list
 pub index_of : (xs : List ℕ) (x : ℕ) → Contains xs x → (i : ℕ) × (i < length xs) × (get_or xs i 0 ≡ x)
@@ -52,6 +76,10 @@ get_or-copies n k x = elim (cases_lt k n) [
   | inr past ↦ get_or_past (replicate n x) k x (omega (arith, length-replicate n x))
 ]
 
+-- a part of the element at a place
+pub part-read : {V W : Type 0} (f : V → W) (xs : List V) (k : ℕ) (x : V) (d : W) → k < length xs → x ≡ get_or xs k x → f x ≡ get_or (map f xs) k d
+part-read f xs k x d inside is = ap f is ∙ sym (get_or-map f xs k x d inside)
+
 -- of two numbers set at one place the later stays
 pub set-set : (xs : List ℕ) (i a b : ℕ) → set (set xs i a) i b ≡ set xs i b
 set-set [] i a b = refl
@@ -71,14 +99,25 @@ pub All-right : {X : Type 0} (P : X → Type 0) (xs ys : List X) → All P (xs +
 All-right P [] ys h = h
 All-right P (x ∷ xs) ys h = All-right P xs ys (All-tail P x (xs ++ ys) h)
 
+pub All-parts : {X : Type 0} (P : X → Type 0) (xs ys : List X) → AllByRecursion P (xs ++ ys) → AllByRecursion P xs × AllByRecursion P ys
+All-parts P [] ys h = (tt, h)
+All-parts P (x ∷ xs) ys h = let more = All-parts P xs ys h.1 in ((h.0, more.0), more.1)
+
+-- two lists in an order, one after the other
+pub AllPairs-append : {X : Type 0} (R : X → X → Type 0) (xs ys : List X) → AllPairs R xs → AllPairs R ys → All (λ x. All (R x) ys) xs → AllPairs R (xs ++ ys)
+AllPairs-append R [] ys h g across = g
+AllPairs-append R (x ∷ xs) ys h g across =
+    AllPairs-cons R x (xs ++ ys) (All-append (R x) xs ys (λ k d l. h 0 (suc k) d (omega arith) (omega arith)) (across 0 x (omega arith)))
+    (AllPairs-append R xs ys (λ i j d l m. h (suc i) (suc j) d (omega arith) (omega arith)) g (λ k d l. across (suc k) d (omega arith)))
+
 -- ---- numbers one after another
--- the numbers from 0 on end with the last one
+-- numbers end with the last one
+pub range_more : (a n : ℕ) → range_with_len a (suc n) ≡ range_with_len a n ++ (a + n) ∷ []
+range_more a zero = ap (λ x. x ∷ []) (sym (add-zero a))
+range_more a (suc n) = ap (λ xs. a ∷ xs) (range_more (a + 1) n ∙ ap (λ x. range_with_len (a + 1) n ++ x ∷ []) (omega arith))
+
 pub range-last : (n : ℕ) → range_with_len 0 (suc n) ≡ range_with_len 0 n ++ n ∷ []
-range-last n = go 0 n ∙ ap (λ x. range_with_len 0 n ++ x ∷ []) (omega arith)
-  where
-    go : (a m : ℕ) → range_with_len a (suc m) ≡ range_with_len a m ++ (a + m) ∷ []
-    go a zero = ap (λ x. x ∷ []) (sym (add-zero a))
-    go a (suc m) = ap (λ xs. a ∷ xs) (go (a + 1) m ∙ ap (λ x. range_with_len (a + 1) m ++ x ∷ []) (omega arith))
+range-last n = range_more 0 n ∙ ap (λ x. range_with_len 0 n ++ x ∷ []) (omega arith)
 
 -- tests that agree on them pick the same ones
 pub filter-same : (p q : ℕ → Bool) (m n : ℕ) → ((k : ℕ) → k < m + n → p k ≡ q k) → filter p (range_with_len m n) ≡ filter q (range_with_len m n)
@@ -91,7 +130,7 @@ filter-none p m zero fails = refl
 filter-none p m (suc n) fails = rw (fails m (omega arith), filter-none p (m + 1) n (λ k below. fails k (omega arith))) refl
 
 -- what is made of the first n numbers from a on, and of the next
-made-more : {X : Type 0} (f : ℕ → List X) (a n : ℕ) → flat_map f (range_with_len a (suc n)) ≡ flat_map f (range_with_len a n) ++ f (a + n)
+pub made-more : {X : Type 0} (f : ℕ → List X) (a n : ℕ) → flat_map f (range_with_len a (suc n)) ≡ flat_map f (range_with_len a n) ++ f (a + n)
 made-more f a zero = append-nil (f a) ∙ ap f (sym (add-zero a))
 made-more f a (suc n) =
     ap (λ v. f a ++ v) (made-more f (a + 1) n ∙ ap (λ k. flat_map f (range_with_len (a + 1) n) ++ f k) (let e : a + 1 + n ≡ a + suc n = omega arith in e))
@@ -99,3 +138,38 @@ made-more f a (suc n) =
 
 pub made-next : {X : Type 0} (f : ℕ → List X) (n : ℕ) → flat_map f (range_with_len 0 (suc n)) ≡ flat_map f (range_with_len 0 n) ++ f n
 made-next f n = made-more f 0 n ∙ ap (λ k. flat_map f (range_with_len 0 n) ++ f k) (zero-add n)
+
+-- ---- lists in an order
+-- the rest of such a list
+pub AllPairs-rest : {X : Type 0} (R : X → X → Type 0) (x : X) (xs : List X) → AllPairs R (x ∷ xs) → AllPairs R xs
+AllPairs-rest R x xs h i j d l k = h (suc i) (suc j) d (omega arith) (omega arith)
+
+-- the first element comes before each member of the rest
+pub AllPairs-member : {X : Type 0} (R : X → X → Type 0) (x : X) (xs : List X) (z : X) → AllPairs R (x ∷ xs) → Contains xs z → R x z
+AllPairs-member R x xs z h c = subst (R x) c.2 (h 0 (suc c.0) z (omega arith) (omega (arith, c.1)))
+
+-- a list whose elements are in an order is determined by its members
+pub determined_by-members : {X : Type 0} (R : X → X → Type 0) (xs ys : List X) → ((x y : X) → R x y → R y x → ⊥) → AllPairs R xs → AllPairs R ys → ((z : X) → Contains xs z → Contains ys z) → ((z : X) → Contains ys z → Contains xs z) → xs ≡ ys
+determined_by-members R [] [] not_both o p f g = refl
+determined_by-members R [] (y ∷ ys) not_both o p f g = let c = g y (first_in y ys) in absurd (omega (arith, c.1))
+determined_by-members R (x ∷ xs) [] not_both o p f g = let c = f x (first_in x xs) in absurd (omega (arith, c.1))
+determined_by-members {X = X} R (x ∷ xs) (y ∷ ys) not_both o p f g =
+    ap₂ (λ v w. v ∷ w) same (determined_by-members R xs ys not_both (AllPairs-rest R x xs o) (AllPairs-rest R y ys p) (λ z c. elim (in_cases y z ys (f z (rest_in x z xs c))) [ inl e ↦ absurd (fresh z c (same ∙ e)) | inr later ↦ later ]) (λ z c. elim (in_cases x z xs (g z (rest_in y z ys c))) [ inl e ↦ absurd (fresh_too z c (sym same ∙ e)) | inr later ↦ later ]))
+  where
+    same : x ≡ y
+    same = elim (in_cases y x ys (f x (first_in x xs))) [
+      | inl e ↦ sym e
+      | inr c ↦ elim (in_cases x y xs (g y (first_in y ys))) [ inl e ↦ e | inr d ↦ absurd (not_both x y (AllPairs-member R x xs y o d) (AllPairs-member R y ys x p c)) ]
+    ]
+
+    -- the first element is none of the rest
+    fresh : (z : X) → Contains xs z → x ≡ z → ⊥
+    fresh z c e = let here = subst (R x) (sym e) (AllPairs-member R x xs z o c) in not_both x x here here
+
+    fresh_too : (z : X) → Contains ys z → y ≡ z → ⊥
+    fresh_too z c e = let here = subst (R y) (sym e) (AllPairs-member R y ys z p c) in not_both y y here here
+
+-- what is made of numbers that give the same
+pub made-same : {X : Type 0} (f h : ℕ → List X) (a n : ℕ) → ((k : ℕ) → a ≤ k → k < a + n → f k ≡ h k) → flat_map f (range_with_len a n) ≡ flat_map h (range_with_len a n)
+made-same f h a zero same = refl
+made-same f h a (suc n) same = ap₂ (λ x y. x ++ y) (same a (omega arith) (omega arith)) (made-same f h (a + 1) n (λ k l b. same k (omega (arith, l)) (omega (arith, b))))

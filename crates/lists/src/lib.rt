@@ -5,9 +5,9 @@
 //! order are determined by their members.
 //! Definitions: `specs::Options` has `>>=`, by which a definition goes on with what it found;
 //! `specs::Orders` the order of lists.
-//! Lemmas for callers: `proofs::OptionLemmas`, `ElementLemmas` (lists and their elements),
-//! `NumberLemmas` and `OrderLemmas`. A lemma that names a word of another crate stands in that
-//! crate.
+//! Lemmas for callers: `proofs::OptionLemmas`, `ElementLemmas` (lists, their elements and members,
+//! and lists in an order), `AscendingNumberLemmas`, `NumberLemmas` and `OrderLemmas`. A lemma that
+//! names a word of another crate stands in that crate.
 //! A change here touches: the order of reduced strategies and of choice lists, and what the readers
 //! of files take off their tokens.
 #![tactic(auto)]

@@ -4,6 +4,7 @@ use Rattle.std.proofs.Common.{ℕ, zero, suc, ◌<◌, ◌≡◌, Option, None, 
 use Rattle.std.specs.Prelude.{if◌then◌else◌}
 use Rattle.std.specs.List.{range_with_len}
 use Rattle.answers.specs.Answers.{refused_by}
+use Rattle.lists.proofs.ElementLemmas.{made-same}
 use Rattle.rational.specs.Rational.{ℚ, ◌*ℚ◌, ◌≤ℚ◌, zero_ℚ, one_ℚ}
 use Rattle.rational.specs.Sum.{sum_to}
 use Rattle.rational.proofs.SumLemmas.{sum_to-same}
@@ -31,7 +32,6 @@ use Rattle.ne_checker.specs.BehaviourPayoffs.{behaviour_payoffs_in}
 use Rattle.ne_checker.specs.TreeSteps.{now_node_steps, now_steps_at, now_steps_to}
 use Rattle.ne_checker.specs.declared.payoffs.PayoffsStop.{PayoffsStop}
 use Rattle.ne_checker.specs.declared.payoffs.PayoffsStop.TheVariants as stops
-use Rattle.ne_checker.proofs.TableSingleLemmas.{made-same}
 
 -- sums of products
 products-alike : (n : ℕ) (p q v u : ℕ → ℚ) → ((a : ℕ) → a < n → p a ≡ q a) → ((a : ℕ) → a < n → v a ≡ u a) → sum_to n (λ a. p a *ℚ v a) ≡ sum_to n (λ a. q a *ℚ u a)

@@ -3,6 +3,7 @@ use Rattle.std.proofs.Common.{ℕ, zero, suc, ◌<◌, ◌≡◌, inl, inr, Opti
 use Rattle.std.specs.Prelude.{◌&&◌, if◌then◌else◌, nat_lt, reverse}
 use Rattle.std.specs.List.{flat_map}
 use Rattle.std.proofs.lemmas.Option.{slice_get-get_or}
+use Rattle.lists.proofs.ElementLemmas.{made-same}
 use Rattle.rational.specs.Rational.{ℚ, ◌*ℚ◌, zero_ℚ}
 use Rattle.rational.proofs.SumLemmas.{sum_to-same}
 use Rattle.frac128.specs.Steps.{unfit, Step}
@@ -19,7 +20,6 @@ use Rattle.best_replies.proofs.ReplyValueLemmas.{reply_value-agree}
 use Rattle.best_replies.proofs.WeightLemmas.{own_or_not, if_own, if_other}
 use Rattle.ne_checker.specs.TreeSteps.{sum_steps, child_value, after_steps, after_sum, reply_steps_to, reply_steps, members, member_child, action_steps, decision_steps, player_steps, has_factor, weight_step, weight_steps}
 use Rattle.ne_checker.proofs.AlikeBehaviourLemmas.{AreAlike, branch-alike, now_steps-alike, reply_value-alike, weight-alike}
-use Rattle.ne_checker.proofs.TableSingleLemmas.{made-same}
 use Rattle.ne_checker.proofs.TreeOwnSetLemmas.{turned}
 
 -- ---- lists of steps

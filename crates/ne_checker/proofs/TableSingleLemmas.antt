@@ -1,8 +1,8 @@
 -- A table and the entries of a profile have at most one verdict.
-use Rattle.std.proofs.Common.{ℕ, zero, suc, ◌+◌, ◌<◌, ◌≤◌, ◌≡◌, inl, inr, List, [], ◌∷◌, ◌++◌, All, length, get_or, refl, sym, ap, ap₂, ◌∙◌, subst, arith}
+use Rattle.std.proofs.Common.{ℕ, suc, ◌+◌, ◌<◌, ◌≤◌, ◌≡◌, inl, inr, List, [], ◌∷◌, ◌++◌, All, length, get_or, refl, sym, ap, ap₂, ◌∙◌, subst, arith}
 use Rattle.std.specs.Prelude.{◌==◌, if◌then◌else◌, true, false}
-use Rattle.std.specs.List.{range_with_len, flat_map}
 use Rattle.std.proofs.lemmas.Bool.{cases_lt}
+use Rattle.lists.proofs.ElementLemmas.{made-same}
 use Rattle.rational.specs.Rational.{ℚ, ◌*ℚ◌, ◌≤ℚ◌, ◌<ℚ◌, zero_ℚ, one_ℚ}
 use Rattle.rational.proofs.Field.{not_lt_of_le}
 use Rattle.rational.proofs.SumLemmas.{sum_to-same}
@@ -19,11 +19,6 @@ use Rattle.ne_checker.specs.TableChecks.{HasNoBetter, IsBetterReply, IsFirstBett
 use Rattle.ne_checker.specs.TableLaws.{TableVerdictsAreSingle}
 use Rattle.ne_checker.specs.declared.tables.TableVerdict.{TableVerdict}
 use Rattle.ne_checker.specs.declared.tables.TableVerdict.TheVariants.{Equilibrium, Better, Range}
-
--- what is made of numbers that give the same
-pub made-same : {X : Type 0} (f h : ℕ → List X) (a n : ℕ) → ((k : ℕ) → a ≤ k → k < a + n → f k ≡ h k) → flat_map f (range_with_len a n) ≡ flat_map h (range_with_len a n)
-made-same f h a zero same = refl
-made-same f h a (suc n) same = ap₂ (λ x y. x ++ y) (same a (omega arith) (omega arith)) (made-same f h (a + 1) n (λ k l b. same k (omega (arith, l)) (omega (arith, b))))
 
 -- profiles with the same probabilities of the strategies that are played
 probability-same : (strategies : List ℕ) (x y : Mixed) → ((k : ℕ) → k < length strategies → x k (get_or strategies k 0) ≡ y k (get_or strategies k 0)) → probability x strategies ≡ probability y strategies

@@ -16,6 +16,7 @@ use Rattle.file_parts.proofs.ParseLemmas.{following, following-cons}
 use Rattle.file_parts.proofs.ReaderLemmas.{err_same}
 use Rattle.file_parts.proofs.ValueLemmas.{value, value_payoffs}
 use Rattle.std.specs.Prelude.{Ok, Err}
+use Rattle.lists.proofs.ElementLemmas.{part-read}
 use Rattle.nfg_reader.specs.TableFile.{outcome_payoffs}
 use Rattle.nfg_reader.proofs.TableValueLemmas.{outcomes_at}
 use Rattle.nfg_reader.specs.TableParsing.{parse_outcome, parse_outcomes, parse_number, parse_outcome_body}
@@ -76,18 +77,12 @@ pub any_stop : (outcomes i : ℕ) (tokens : List Token) (stopped : PartStop NfgK
 unfolding parse_number
 any_stop outcomes i tokens stopped r = r
 
--- an element, seen by f
-nth_of : {V : Type 0} (outcomes : List V) (one : V) (n : ℕ) (f : V → List ℚ) → n < length outcomes → one ≡ get_or outcomes n one → f one ≡ get_or (map f outcomes) n []
-nth_of [] one n f lt e = absurd (omega arith)
-nth_of (x ∷ outcomes) one zero f lt e = ap f e
-nth_of (x ∷ outcomes) one (suc n) f lt e = nth_of outcomes one n f (omega arith) e
-
 -- what an outcome with a number pays
 pub outcome_named : {V : Type 0} (outcomes : List V) (one : V) (players n : ℕ) (f : V → List ℚ) → 0 < n → n ≤ length outcomes → one ≡ get_or outcomes (n - 1) one → f one ≡ outcome_payoffs players (map f outcomes) n
 outcome_named outcomes one players zero f lt le e = absurd (omega arith)
 outcome_named outcomes one players (suc n) f lt le e =
     let less : suc n - 1 ≡ n = omega arith in
-    nth_of outcomes one n f (omega arith) (rw less at e)
+    part-read f outcomes n one [] (omega arith) (rw less at e)
 
 -- an outcome takes tokens
 pub outcome_shorter : (tokens inner following last rest : List Spanned) (name : List ℕ) (n : ℕ) (payoffs : List ℚ) → left_at (bare tokens) ≡ Some (bare inner) → text_at (bare inner) ≡ Some (name, bare following) → parse_payoffs Outcome n (bare following) ≡ Ok (payoffs, bare last) → right_at (bare last) ≡ Some (bare rest)

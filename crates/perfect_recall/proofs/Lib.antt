@@ -2,4 +2,3 @@ pub mod HistoryLemmas
 mod LastEdgeLemmas
 pub mod MemberLemmas
 mod OneRecallLaws
-mod PrefixOrderLemmas

@@ -8,13 +8,17 @@ use Rattle.rational.proofs.IntegerRing.{integer_ring}
 use Rattle.rational.proofs.PartLemmas.{frac-eq, frac-mul}
 use Rattle.rational.proofs.Rules.{*ℚ-zero}
 use Rattle.rational.proofs.Ring.{ring, combine, ◌times◌is◌, num, ◌:*◌, ◌:-◌, :neg, A, B, C, D}
-use Rattle.rational.proofs.Linear.{linear, lit, ◌⟨<⟩◌}
+use Rattle.rational.proofs.Linear.{linear, lit, ◌⟨<⟩◌, ◌⟨≤⟩◌}
 use Rattle.rational.proofs.Field.{*ℚ-inv, ne_of_lt, lt_of_not_le, le_of_lt, le-mul_left, not_lt_of_le}
 use Rattle.rational.proofs.Decide.{is_zero}
 
--- 1 is positive
-pub one_pos : zero_ℚ <ℚ one_ℚ
-one_pos = linear [] [] (lit (pos 0) ⟨<⟩ lit (pos 1)) (λ one z p h. omega (arith, ints)) tt
+-- 0 is at most 1
+pub zero_le_one : zero_ℚ ≤ℚ one_ℚ
+zero_le_one = linear [] [] (lit (pos 0) ⟨≤⟩ lit (pos 1)) (λ one z p h. omega (arith, ints)) tt
+
+-- 0 is less than 1
+pub zero_lt_one : zero_ℚ <ℚ one_ℚ
+zero_lt_one = linear [] [] (lit (pos 0) ⟨<⟩ lit (pos 1)) (λ one z p h. omega (arith, ints)) tt
 
 -- a positive number is not 0
 pub ne_zero_of_pos : (a : ℚ) → zero_ℚ <ℚ a → a ≢ zero_ℚ
@@ -27,19 +31,19 @@ inv_ℚ-zero = refl
 
 -- the inverse of a positive number is positive
 pub inv_pos : (a : ℚ) → zero_ℚ <ℚ a → zero_ℚ <ℚ inv_ℚ a
-inv_pos a h = lt_of_not_le zero_ℚ (inv_ℚ a) (λ k. not_lt_of_le one_ℚ zero_ℚ (subst (λ x. x ≤ℚ zero_ℚ) (*ℚ-inv a (ne_zero_of_pos a h)) (subst (λ x. (a *ℚ inv_ℚ a) ≤ℚ x) (*ℚ-zero a) (le-mul_left a (inv_ℚ a) zero_ℚ (le_of_lt zero_ℚ a h) k))) one_pos)
+inv_pos a h = lt_of_not_le zero_ℚ (inv_ℚ a) (λ k. not_lt_of_le one_ℚ zero_ℚ (subst (λ x. x ≤ℚ zero_ℚ) (*ℚ-inv a (ne_zero_of_pos a h)) (subst (λ x. (a *ℚ inv_ℚ a) ≤ℚ x) (*ℚ-zero a) (le-mul_left a (inv_ℚ a) zero_ℚ (le_of_lt zero_ℚ a h) k))) zero_lt_one)
 
 -- what makes 1 with a is its inverse
 pub inv_unique : (a b : ℚ) → a *ℚ b ≡ one_ℚ → b ≡ inv_ℚ a
 inv_unique a b e = elim (is_zero a) [
-  | inl z ↦ absurd (ne_of_lt zero_ℚ one_ℚ one_pos (combine rational_ring (a ∷ b ∷ []) ((num 1 times A :* B is num 1) ∷ (:neg B times A is num 0) ∷ []) (num 0) (num 1) refl (e, (z, tt))))
+  | inl z ↦ absurd (ne_of_lt zero_ℚ one_ℚ zero_lt_one (combine rational_ring (a ∷ b ∷ []) ((num 1 times A :* B is num 1) ∷ (:neg B times A is num 0) ∷ []) (num 0) (num 1) refl (e, (z, tt))))
   | inr n ↦ combine rational_ring (a ∷ b ∷ inv_ℚ a ∷ []) ((C times A :* B is num 1) ∷ (:neg B times A :* C is num 1) ∷ []) B C refl (e, (*ℚ-inv a n, tt))
 ]
 
 -- a number that is not 0 has an inverse that is not 0
 pub inv_ne_zero : (a : ℚ) → a ≢ zero_ℚ → inv_ℚ a ≢ zero_ℚ
 inv_ne_zero a n e =
-    ne_of_lt zero_ℚ one_ℚ one_pos (combine rational_ring (a ∷ inv_ℚ a ∷ []) ((num 1 times A :* B is num 1) ∷ (:neg A times B is num 0) ∷ []) (num 0) (num 1) refl (*ℚ-inv a n, (e, tt)))
+    ne_of_lt zero_ℚ one_ℚ zero_lt_one (combine rational_ring (a ∷ inv_ℚ a ∷ []) ((num 1 times A :* B is num 1) ∷ (:neg A times B is num 0) ∷ []) (num 0) (num 1) refl (*ℚ-inv a n, (e, tt)))
 
 -- the inverse of the inverse
 pub inv_ℚ-inv : (a : ℚ) → a ≢ zero_ℚ → inv_ℚ (inv_ℚ a) ≡ a

@@ -14,7 +14,7 @@ use Rattle.rational.proofs.Linear.{zero-over, StandsFor-whole}
 use Rattle.std.specs.Int.{int_signum}
 
 -- ---- whole numbers
-gcd-one : (a : ℕ) → gcd a 1 ≡ 1
+pub gcd-one : (a : ℕ) → gcd a 1 ≡ 1
 unfolding gcd
 gcd-one a = refl
 

@@ -36,6 +36,16 @@ pub *ℚ-zero : (a : ℚ) → a *ℚ zero_ℚ ≡ zero_ℚ
 pub zero-*ℚ : (a : ℚ) → zero_ℚ *ℚ a ≡ zero_ℚ
 zero-*ℚ a = L.zero-mul rational_ring a
 
+-- a factor that is 1 or 0
+pub one_times : (a b : ℚ) → a ≡ one_ℚ → a *ℚ b ≡ b
+one_times a b e = ap (λ x. x *ℚ b) e ∙ one-*ℚ b
+
+pub times_zero : (a b : ℚ) → b ≡ zero_ℚ → a *ℚ b ≡ zero_ℚ
+times_zero a b e = ap (λ x. a *ℚ x) e ∙ *ℚ-zero a
+
+pub zero_times : (a b : ℚ) → a ≡ zero_ℚ → a *ℚ b ≡ zero_ℚ
+zero_times a b e = ap (λ x. x *ℚ b) e ∙ zero-*ℚ b
+
 -- a factor times a negated one
 pub *ℚ-neg : (a b : ℚ) → a *ℚ neg_ℚ b ≡ neg_ℚ (a *ℚ b)
 *ℚ-neg a b = L.mul-neg rational_ring a b

@@ -1,10 +1,11 @@
 -- Laws of sums.
-use Rattle.std.proofs.Common.{ℕ, pos, suc, add-one, zero, ◌<◌, ◌≡◌, ◌+◌, ◌*◌, mul-zero, eqb, cond, refl, sym, ap, ap₂, ◌∙◌, subst, [], ◌∷◌, arith, inl, inr, tests, eq-or-lt_of_le, le_of_suc-le-suc}
+use Rattle.std.proofs.Common.{ℕ, pos, suc, add-one, zero, ◌<◌, ◌≡◌, ◌+◌, ◌*◌, mul-zero, eqb, cond, refl, sym, ap, ap₂, ◌∙◌, subst, [], ◌∷◌, arith, inl, inr, tests, eq-or-lt_of_le, le_of_suc-le-suc, ◌≢◌, Bool, true, false, Decides}
 use Rattle.std.proofs.lemmas.Int.{ints}
+use Rattle.std.proofs.lemmas.Bool.Decides.{Decides-eqb}
 use Rattle.rational.specs.Rational.{ℚ, ◌+ℚ◌, ◌*ℚ◌, ◌-ℚ◌, neg_ℚ, zero_ℚ, one_ℚ, whole, ◌≤ℚ◌, ◌<ℚ◌}
 use Rattle.rational.specs.Sum.{sum_to, change}
 use Rattle.rational.proofs.RationalRing.{rational_ring, *ℚ_comm}
-use Rattle.rational.proofs.Rules.{zero-*ℚ}
+use Rattle.rational.proofs.Rules.{zero-*ℚ, one-*ℚ}
 use Rattle.rational.proofs.PartLemmas.{whole-add}
 use Rattle.rational.proofs.Ring.{ring, combine, ◌times◌is◌, num, ◌:+◌, ◌:*◌, :neg, A, B, C, D}
 use Rattle.rational.proofs.Linear.{linear, at, lit, ◌⟨+⟩◌, ◌⟨-⟩◌, ◌⟨≤⟩◌, ◌⟨<⟩◌, ◌⟨=⟩◌}
@@ -99,6 +100,14 @@ sum_to-single n c f h =
     let g : ℕ → ℚ = λ i. zero_ℚ in
     combine rational_ring (sum_to n (λ j. change g c one_ℚ j *ℚ f j) ∷ f c ∷ sum_to n (λ j. zero_ℚ *ℚ f j) ∷ []) ((num 1 times A :+ num 0 :* B is C :+ num 1 :* B) ∷ (num 1 times C is num 0) ∷ []) A B refl
     (ap (λ x. x +ℚ (zero_ℚ *ℚ f c)) (sum_to-same n _ _ (λ j p. ap (λ x. change g c one_ℚ j *ℚ x) (sym (change_same f c j)))) ∙ sum_to-change n c g f one_ℚ (f c) h, (sum_to-same n (λ j. zero_ℚ *ℚ f j) (λ j. zero_ℚ) (λ j p. ring rational_ring (f j ∷ []) (num 0 :* A) (num 0) refl) ∙ sum_to-zero n, tt))
+
+-- a sum in which only one term counts
+pub sum_to-only : (n c : ℕ) (f : ℕ → ℚ) → c < n → ((j : ℕ) → j < n → j ≢ c → f j ≡ zero_ℚ) → sum_to n f ≡ f c
+sum_to-only n c f h others = sum_to-same n f _ (λ j l. term j l (eqb j c) (Decides-eqb j c)) ∙ sum_to-single n c f h
+  where
+    term : (j : ℕ) → j < n → (b : Bool) → Decides b (j ≡ c) → f j ≡ cond b one_ℚ zero_ℚ *ℚ f j
+    term j l true d = sym (one-*ℚ (f j))
+    term j l false d = others j l (λ e. let q : false ≡ true = d.1 e in cc) ∙ sym (zero-*ℚ (f j))
 
 -- n equal terms
 pub sum_to-constant : (n : ℕ) (c : ℚ) → sum_to n (λ i. c) ≡ whole (pos n) *ℚ c

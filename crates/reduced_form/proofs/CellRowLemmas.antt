@@ -1,13 +1,13 @@
 -- The cells of a reduced form in the order in which they are computed.
-use Rattle.std.proofs.Common.{ℕ, ◌⊎◌, refl, ◌+◌, ◌-◌, ◌*◌, ◌/◌, ◌%◌, ◌<◌, ◌≤◌, ◌≡◌, inl, inr, Some, Ok, Err, List, ◌++◌, length, map, take, get_or, slice_get, All, sym, ap, ◌∙◌, subst, arith}
+use Rattle.std.proofs.Common.{ℕ, ◌⊎◌, refl, ◌+◌, ◌-◌, ◌*◌, ◌<◌, ◌≤◌, ◌≡◌, inl, inr, Some, Ok, Err, List, ◌++◌, length, map, take, get_or, slice_get, All, sym, ap, ◌∙◌, subst, arith}
 use Rattle.std.specs.List.{flat_map, range_with_len}
 use Rattle.std.proofs.lemmas.Bool.{cases_lt}
 use Rattle.std.proofs.lemmas.List.{get_or_append_left, get_or-append_right, length-append, take_all}
 use Rattle.std.proofs.lemmas.List.Elements.{All-map}
 use Rattle.std.proofs.lemmas.List.FromFn.{get_or-range_with_len, length-range_with_len}
-use Rattle.std.proofs.lemmas.Nat.{div-mul-add, mod-mul-add}
 use Rattle.std.proofs.lemmas.Option.{slice_get-get_or}
 use Rattle.answers.specs.Answers.{Answer, Gives, refused_by}
+use Rattle.lists.proofs.NumberLemmas.{place-tells}
 use Rattle.rational.specs.Rational.{ℚ, zero_ℚ}
 use Rattle.game_theory.specs.Lines.{listed}
 use Rattle.game_theory.proofs.ProfileLineLemmas.{get_or-listed, length-listed}
@@ -29,11 +29,6 @@ abbrev pub profile_cells_in : Tree → List (List (List ℕ)) → ℕ → Answer
 profile_cells_in t strategies k =
     refused_by (at_profile k)
     (payoffs_in t (completed t strategies (profile_at (map length strategies) k)))
-
--- a row and a column tell a place
-place-tells : (n k i m j : ℕ) → i < n → j < n → k * n + i ≡ m * n + j → (k ≡ m) × (i ≡ j)
-place-tells n k i m j h l e =
-    (sym (div-mul-add k n i h) ∙ ap (λ x. x / n) e ∙ div-mul-add m n j l, sym (mod-mul-add k n i h) ∙ ap (λ x. x % n) e ∙ mod-mul-add m n j l)
 
 module _ (t : Tree) (strategies : List (List (List ℕ))) where
   -- the cells of one more profile

@@ -3,8 +3,9 @@ use Rattle.std.proofs.Common.{ℕ, zero, suc, ◌+◌, ◌*◌, ◌/◌, ◌<◌
 use Rattle.std.specs.Prelude.{slice_get, slice_index}
 use Rattle.std.proofs.lemmas.List.{length-map, length_push, length-take-le, take_all, take_more, get_or_append_left, get_or_push, ext_get_or, get_or-take, get_or-map}
 use Rattle.std.proofs.lemmas.Option.{slice_get-get_or}
-use Rattle.std.proofs.Math.Nat.{lt-div-mul-add, mul-div-le, min-le_left, min-eq_left, min-eq_right}
+use Rattle.std.proofs.Math.Nat.{mul-div-le, min-le_left, min-eq_left, min-eq_right}
 use Rattle.std.proofs.lemmas.Bool.{cases_lt}
+use Rattle.lists.proofs.NumberLemmas.{above_quotient}
 use Rattle.game_theory.proofs.ProfileCountLemmas.{profile_count-push, profile_count-positive, profile_count-front}
 use Rattle.game_theory.specs.OwnSets.{own_sets}
 use native.Mathlib.Nat as N
@@ -115,19 +116,12 @@ many-front t counts w h l many =
     let more : t.players * profile_count counts ≤ t.players * profile_count (map length s.0) = N.mul-le-mul_left t.players (counts-front t s.0 counts w s.1 h l) in
     inr (s.0, s.1, (first_above what.Payoffs most_payoffs, inl (omega arith, refl), refl))
 
--- a count above the quotient of the limit takes the product above the limit
-above_quotient : (limit payoffs count : ℕ) → 0 < payoffs → limit / payoffs < count → limit < payoffs * count
-above_quotient limit payoffs count p h =
-    let near = lt-div-mul-add {a = limit} {b = payoffs} p in
-    let room : payoffs * (limit / payoffs + 1) ≤ payoffs * count = N.mul-le-mul_left payoffs (omega arith) in
-    omega arith
-
 -- one more player takes the number of payoffs above the limit
 pub many-next : (t : Tree) (counts : List ℕ) (payoffs all : ℕ) → IsTree t → AreCounts t counts → HasCount t (length counts) all → length counts < t.players
     → payoffs ≡ t.players * profile_count counts → 0 < payoffs → most_payoffs / payoffs < all → counts_in t (Err (stops.TooLarge (first_above what.Payoffs most_payoffs)))
 many-next t counts payoffs all w h last l is p above =
     let product : t.players * profile_count (counts ++ all ∷ []) ≡ payoffs * all = ap (λ x. t.players * x) (profile_count-push counts all) ∙ sym (N.mul_assoc t.players (profile_count counts) all) ∙ ap (λ x. x * all) (sym is) in
-    let many : most_payoffs < payoffs * all = above_quotient most_payoffs payoffs all p above in
+    let many : most_payoffs < payoffs * all = subst (λ n. most_payoffs < n) (N.mul_comm all payoffs) (above_quotient most_payoffs payoffs all p above) in
     many-front t (counts ++ all ∷ []) w (AreCounts-push t counts all h last) (omega (arith, length_push counts all)) (subst (λ x. most_payoffs < x) (sym product) many)
 
 -- the numbers of all players' strategies

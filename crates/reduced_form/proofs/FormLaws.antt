@@ -1,6 +1,7 @@
 -- The table of a reduced form, and that its cells are those of the strategic form.
-use Rattle.std.proofs.Common.{ℕ, ◌+◌, ◌*◌, ◌<◌, ◌≤◌, ◌≡◌, List, [], ◌∷◌, length, map, get_or, All, refl, sym, ap, ap₂, ◌∙◌, subst, arith}
+use Rattle.std.proofs.Common.{ℕ, ◌*◌, ◌<◌, ◌≤◌, ◌≡◌, List, [], ◌∷◌, length, map, get_or, All, refl, sym, ap, ap₂, ◌∙◌, subst, arith}
 use Rattle.std.proofs.lemmas.List.{length-map, get_or-map, get_or_default}
+use Rattle.lists.proofs.NumberLemmas.{place-inside}
 use native.Mathlib.Nat as N
 use Rattle.rational.specs.Rational.{ℚ}
 use Rattle.game_theory.specs.Profiles.{profile_count, number_of}
@@ -25,10 +26,6 @@ few_profiles players (n ∷ counts) l h = let room : 1 * profile_count (n ∷ co
 -- and no player has more strategies
 pub few_of_each : (counts : List ℕ) → All (λ n. 0 < n) counts → profile_count counts ≤ most_payoffs → All (λ n. n ≤ most_payoffs) counts
 few_of_each counts positive few k d l = omega (arith, get_or_default counts k d 0 l, profile_count-player counts k positive)
-
--- a cell's place among the payoffs
-cell_place : (players count k i : ℕ) → k < count → i < players → k * players + i < players * count
-cell_place players count k i h l = let room : players * (k + 1) ≤ players * count = N.mul-le-mul_left players (omega arith) in omega arith
 
 -- ---- the table
 -- names do not change how many strategies there are
@@ -65,7 +62,7 @@ form-is_form t strategies payoffs table w a is long few cells = subst (λ (x : G
   players_are = refl;
   names_are = refl;
   is_table = form_table-is_table t strategies payoffs w a long few;
-  pays = λ i k l h. cells k i l (omega (arith, cell_place (length t.players) (profile_count (map length strategies)) k i h l));
+  pays = λ i k l h. cells k i l (omega (arith, place-inside (profile_count (map length strategies)) (length t.players) k i h l));
 })
 
 -- each cell is what every completion pays

@@ -2,12 +2,12 @@
 -- numbers from 1 on, at most 128, and right sides are not negative.
 use Rattle.std.proofs.Common.{ℕ, zero, suc, ◌+◌, ◌<◌, ◌≤◌, ◌≡◌, ◌↔◌, length, refl, sym, ap₂, ◌∙◌, subst, arith}
 use Rattle.rational.specs.Rational.{ℚ, zero_ℚ, one_ℚ, ◌≤ℚ◌}
+use Rattle.rational.proofs.InverseLemmas.{zero_le_one}
 use Rattle.linear_systems.specs.Tableau.{Tableau}
 use Rattle.linear_systems.specs.Reached.{IsVariableOf, in_row, in_column}
 use Rattle.linear_systems.proofs.AgreementLemmas.{alike_sym}
 use Rattle.linear_systems.proofs.ReachedTableauLemmas.{stands_alike}
 use Rattle.game_theory.specs.Profiles.{Game}
-use Rattle.game_theory.proofs.SureStrategyLemmas.{zero_le_one}
 use Rattle.extreme_equilibria.specs.TwoPlayers.{pays_against}
 use Rattle.extreme_equilibria.specs.Bimatrix.{shifted, shift_of}
 use Rattle.extreme_equilibria.specs.Systems.{first_system, second_system}

@@ -9,6 +9,7 @@ use Rattle.std.proofs.lemmas.List.Elements.{All-map, All-get_or, All-from_get_or
 use Rattle.std.proofs.lemmas.List.FromFn.{length-enumerate_from, get_or-enumerate_from}
 use Rattle.std.proofs.lemmas.Option.{slice_get_within, get_or_from_slice_get}
 use Rattle.std.proofs.lemmas.Nat.{div-add-mod'}
+use Rattle.lists.proofs.AscendingNumberLemmas.{rises}
 use Rattle.rational.specs.Rational.{ℚ, ◌+ℚ◌, zero_ℚ}
 use Rattle.rational.proofs.RationalRing.{+ℚ_assoc, +ℚ_comm, +ℚ-zero}
 use Rattle.frac128.specs.FirstUnfit.{StepsFit}
@@ -20,7 +21,7 @@ use Rattle.sequence_data.specs.Cells.{total, chance_one, chance_two, cell_at, Is
 use Rattle.sequence_data.specs.Gathered.{cell_place, cell_in, ArePlaces, added_cell}
 use Rattle.sequence_data.specs.Steps.{added_steps, gathering_in, fit_at, leaf_steps}
 use Rattle.sequence_data.specs.declared.stop.SeqStop.{SeqStop}
-use Rattle.sequence_data.proofs.PlaceLemmas.{any_at, all-of_each, get_or-inside, rises, number-one, row-of_place, column-of_place, before-by_place}
+use Rattle.sequence_data.proofs.PlaceLemmas.{any_at, all-of_each, get_or-inside, number-one, row-of_place, column-of_place, before-by_place}
 
 -- ---- sums with one more leaf
 -- what a leaf adds at a row and column

@@ -1,17 +1,19 @@
 -- The places of leaves' cells, and where a leaf finds its own.
-use Rattle.std.proofs.Common.{ℕ, zero, suc, ◌*◌, ◌/◌, ◌%◌, ◌<◌, ◌≤◌, ◌≡◌, ◌⊎◌, inl, inr, eqb, List, [], ◌∷◌, length, map, get_or, All, Err, refl, sym, ap, ◌∙◌, subst, arith}
+use Rattle.std.proofs.Common.{ℕ, zero, suc, ◌*◌, ◌/◌, ◌%◌, ◌<◌, ◌≤◌, ◌≡◌, ◌⊎◌, inl, inr, eqb, List, [], ◌∷◌, length, map, get_or, All, refl, sym, ap, ◌∙◌, subst, arith}
 use Rattle.std.specs.Prelude.{Any, Contains}
 use Rattle.std.specs.List.{dedup}
-use Rattle.std.specs.List.Sorted.{IsPermutation, IsSorted, IsStrictlyIncreasing, IsBinarySearchResult}
+use Rattle.std.specs.List.Sorted.{IsPermutation, IsSorted, IsStrictlyIncreasing}
 use Rattle.std.specs.Ordering.{nat_cmp}
-use Rattle.std.proofs.lemmas.Bool.{cases_lt, cases_order}
+use Rattle.std.proofs.lemmas.Bool.{cases_order}
 use Rattle.std.proofs.lemmas.List.{length-map, get_or-map}
 use Rattle.std.proofs.lemmas.List.Elements.{All-nil, All-from_get_or, Contains-get_or}
-use Rattle.std.proofs.lemmas.List.Kept.{AllPairs-from_increasing, Contains-dedup_nat, Contains-from_dedup}
-use Rattle.std.proofs.lemmas.List.Sorted.{searched, Contains-permutation, IsPermutation-sym}
+use Rattle.std.proofs.lemmas.List.Kept.{Contains-dedup_nat, Contains-from_dedup}
+use Rattle.std.proofs.lemmas.List.Sorted.{Contains-permutation, IsPermutation-sym}
 use Rattle.std.proofs.lemmas.Nat.{div-mul-add, div-add-mod'}
 use Rattle.std.proofs.Math.Nat.{mul-le-mul_right, mod-lt}
 use Rattle.std.proofs.lemmas.Map.Keys.{IsStrictlyIncreasing-dedup}
+use Rattle.lists.proofs.AscendingNumberLemmas.{rises}
+use Rattle.lists.proofs.ElementLemmas.{mapped}
 use Rattle.sequence_data.specs.declared.types.Leaf.{Leaf}
 use Rattle.sequence_data.specs.Gathered.{cell_place, ArePlaces}
 
@@ -24,10 +26,6 @@ get_or-inside (x ∷ xs) (suc k) a b l = get_or-inside xs k a b (omega arith)
 -- an element that has P
 pub any_at : {X : Type 0} (P : X → Type 0) (xs : List X) (k : ℕ) (d : X) → k < length xs → P (get_or xs k d) → Any P xs
 any_at P xs k d l h = (k, get_or xs k d, l, get_or-inside xs k (get_or xs k d) d l, h)
-
--- a list contains the number of each of its elements
-contains-mapped : {X : Type 0} (f : X → ℕ) (xs : List X) (k : ℕ) (d : X) → k < length xs → Contains (map f xs) (f (get_or xs k d))
-contains-mapped f xs k d l = (k, subst (λ n. k < n) (sym (length-map xs f)) l, get_or-map f xs k d (f (get_or xs k d)) l)
 
 -- and only those
 mapped-contains : {X : Type 0} (f : X → ℕ) (xs : List X) (y : ℕ) → Contains (map f xs) y → Any (λ x. f x ≡ y) xs
@@ -50,32 +48,11 @@ places-made columns leaves all sorted places are moved order once = record {
       mapped-contains (cell_place columns) leaves (get_or places i 0) (subst (λ xs. Contains xs (get_or places i 0)) are first));
   of_each = all-of_each (λ l. Contains places (cell_place columns l)) leaves (λ k d l.
       let y = cell_place columns (get_or leaves k d) in
-      let first = subst (λ xs. Contains xs y) (sym are) (contains-mapped (cell_place columns) leaves k d l) in
+      let first = subst (λ xs. Contains xs y) (sym are) (mapped (cell_place columns) (get_or leaves k d) leaves (Contains-get_or leaves k d l)) in
       subst (λ xs. Contains xs y) (sym once) (Contains-dedup_nat sorted y (Contains-permutation all sorted y moved first)));
 }
 
 -- ---- the number of a place
--- numbers that rise
-pub rises : (places : List ℕ) → IsStrictlyIncreasing places → (i j : ℕ) → i < j → j < length places → get_or places i 0 < get_or places j 0
-rises places h i j l k = AllPairs-from_increasing places h i j 0 l k
-
--- a number that is there is not missed
-pub number-missed : (places : List ℕ) (x i : ℕ) → IsStrictlyIncreasing places → IsBinarySearchResult (λ y. nat_cmp y x) places (Err i) → Contains places x → ⊥
-number-missed places x i up answer there =
-    let missed = searched places x (Err i) answer not_falling in
-    let is : get_or places there.0 0 ≡ x = get_or-inside places there.0 0 x there.1 ∙ there.2 in
-    elim (cases_lt there.0 i) [
-      | inl l ↦ absurd (omega (arith, missed.1 there.0 l, is))
-      | inr g ↦ absurd (omega (arith, missed.2 there.0 g there.1, is))
-    ]
-  where
-    not_falling : (a b : ℕ) → a ≤ b → b < length places → get_or places a 0 ≤ get_or places b 0
-    not_falling a b l k = elim (cases_order a b) [
-      | inl e ↦ omega (arith, ap (λ n. get_or places n 0) e)
-      | inr (inl m) ↦ omega (arith, rises places up a b m k)
-      | inr (inr m) ↦ absurd (omega arith)
-    ]
-
 -- one place has one number
 pub number-one : (places : List ℕ) → IsStrictlyIncreasing places → (i j : ℕ) → i < length places → j < length places → get_or places i 0 ≡ get_or places j 0 → i ≡ j
 number-one places up i j l k e = elim (cases_order i j) [

@@ -1,11 +1,10 @@
 -- Numbers written at their cells.
-use Rattle.std.proofs.Common.{ℕ, zero, suc, ◌<◌, ◌≤◌, ◌≡◌, ◌≢◌, ◌+◌, ◌*◌, ◌/◌, ◌⊎◌, inl, inr, ◌==◌, ◌&&◌, if◌then◌else◌, List, [], ◌∷◌, All, length, get_or, slice_set, refl, sym, ap, ap₂, ◌∙◌, subst, arith, tests}
-use Rattle.std.proofs.Math.Nat.{mul-le-mul_right}
+use Rattle.std.proofs.Common.{ℕ, zero, suc, ◌<◌, ◌≡◌, ◌≢◌, ◌+◌, ◌*◌, ◌⊎◌, inl, inr, ◌==◌, ◌&&◌, if◌then◌else◌, List, [], ◌∷◌, All, length, get_or, slice_set, refl, sym, ap, ap₂, ◌∙◌, subst, arith, tests}
 use Rattle.std.proofs.lemmas.Option.{slice_get-get_or}
 use Rattle.std.proofs.lemmas.Bool.{cases_eq, cases_lt}
 use Rattle.std.proofs.lemmas.List.{get_or-set_other, get_or_default, length-set}
 use Rattle.std.proofs.lemmas.Grind.{get_or-set_at}
-use Rattle.std.proofs.lemmas.Nat.{div-mul-add}
+use Rattle.lists.proofs.NumberLemmas.{place-inside, place-tells}
 use Rattle.rational.specs.Rational.{ℚ, ◌+ℚ◌, zero_ℚ}
 use Rattle.rational.proofs.RationalRing.{rational_ring}
 use Rattle.rational.proofs.Ring.{ring, num, ◌:+◌, A}
@@ -13,16 +12,6 @@ use Rattle.sequence_forms.specs.Lists.{listed_at}
 use Rattle.sequence_data.specs.declared.types.Cell.{Cell}
 use Rattle.sequence_data.specs.Cells.{AreCellsInOrder}
 use Rattle.sequence_data.specs.Matrices.{IsInside, placed, HoldsNumbers}
-
--- rows of so many columns do not overlap
-same_place : (r s q p columns : ℕ) → q < columns → p < columns → r * columns + q ≡ s * columns + p → (r ≡ s) × (q ≡ p)
-same_place r s q p columns hq hp e = (row, column)
-  where
-    row : r ≡ s
-    row = sym (div-mul-add r columns q hq) ∙ ap (λ n. n / columns) e ∙ div-mul-add s columns p hp
-
-    column : q ≡ p
-    column = let f : r * columns ≡ s * columns = ap (λ n. n * columns) row in omega (arith, e, f)
 
 abbrev pub nowhere : Cell
 nowhere = record { row = 0; column = 0; weight = zero_ℚ; one = zero_ℚ; two = zero_ℚ }
@@ -99,9 +88,6 @@ pub record IsWritten (rows columns : ℕ) (cells : List Cell) (numbers : List �
   pub there : (j : ℕ) → j < k → get_or matrix ((cell_of cells j).row * columns + (cell_of cells j).column) zero_ℚ ≡ get_or numbers j zero_ℚ
   pub elsewhere : (r q : ℕ) → r < rows → q < columns → ((j : ℕ) → j < k → Stands cells r q j → ⊥) → get_or matrix (r * columns + q) zero_ℚ ≡ zero_ℚ
 
-pub is_inside : (rows columns r q : ℕ) → r < rows → q < columns → r * columns + q < rows * columns
-is_inside rows columns r q h l = let m : suc r * columns ≤ rows * columns = mul-le-mul_right columns h in omega (arith, m)
-
 module _ (rows columns : ℕ) (cells : List Cell) (numbers : List ℚ) (inside : All (IsInside rows columns) cells) (ordered : AreCellsInOrder cells) where
   pub inside_at : (k : ℕ) → k < length cells → ((cell_of cells k).row < rows) × ((cell_of cells k).column < columns)
   inside_at k l = inside k nowhere l
@@ -121,10 +107,10 @@ module _ (rows columns : ℕ) (cells : List Cell) (numbers : List ℚ) (inside :
       c₀ = cell_of cells k
 
       small : c₀.row * columns + c₀.column < length matrix
-      small = subst (λ n. c₀.row * columns + c₀.column < n) (sym w.shape) (is_inside rows columns c₀.row c₀.column (inside_at k l).0 (inside_at k l).1)
+      small = subst (λ n. c₀.row * columns + c₀.column < n) (sym w.shape) (place-inside rows columns c₀.row c₀.column (inside_at k l).0 (inside_at k l).1)
 
       other : (r q : ℕ) → q < columns → ((r ≡ c₀.row) × (q ≡ c₀.column) → ⊥) → get_or (slice_set matrix (c₀.row * columns + c₀.column) v) (r * columns + q) zero_ℚ ≡ get_or matrix (r * columns + q) zero_ℚ
-      other r q hq not = get_or-set_other matrix (c₀.row * columns + c₀.column) (r * columns + q) v zero_ℚ (λ e. not (same_place r c₀.row q c₀.column columns hq (inside_at k l).1 e))
+      other r q hq not = get_or-set_other matrix (c₀.row * columns + c₀.column) (r * columns + q) v zero_ℚ (λ e. not (place-tells columns r q c₀.row c₀.column hq (inside_at k l).1 e))
 
   pub written_all : (matrix : List ℚ) → length numbers ≡ length cells → IsWritten rows columns cells numbers (length cells) matrix → HoldsNumbers rows columns (placed cells numbers) matrix
   written_all matrix same w r q hr hq = elim (find_cell cells r q (length cells)) [

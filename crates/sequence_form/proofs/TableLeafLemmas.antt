@@ -5,9 +5,9 @@ use Rattle.std.proofs.lemmas.List.{length-map, get_or-map}
 use Rattle.std.proofs.lemmas.List.Elements.{All-get_or}
 use Rattle.std.proofs.lemmas.List.FromFn.{length-map-range_with_len, get_or-map-range_with_len}
 use Rattle.std.proofs.lemmas.Nat.{div_below, mod_below}
-use Rattle.game_theory.proofs.SureStrategyLemmas.{zero_le_one}
 use Rattle.game_theory.specs.Profiles.{profile_count, profile_at}
 use Rattle.lists.proofs.ElementLemmas.{two-elements}
+use Rattle.rational.proofs.InverseLemmas.{zero_le_one}
 use Rattle.game_core.specs.Table.{GameTable, IsTable, strategy_counts}
 use Rattle.sequence_forms.specs.Sides.{first}
 use Rattle.sequence_data.specs.Data.{LeafFits, IsSideData, side_of}

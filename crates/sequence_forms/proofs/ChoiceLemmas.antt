@@ -10,8 +10,9 @@ use Rattle.rational.proofs.RationalRing.{*ℚ_assoc, *ℚ_comm, *ℚ-one}
 use Rattle.rational.proofs.Rules.{one-*ℚ}
 use Rattle.rational.proofs.Field.{nonneg-mul}
 use Rattle.rational.proofs.SumLemmas.{sum_to-same, sum_to-scale}
+use Rattle.rational.proofs.InverseLemmas.{zero_le_one}
 use Rattle.game_theory.specs.Mixed.{sure}
-use Rattle.game_theory.proofs.SureStrategyLemmas.{zero_le_one, sure-not_negative, sum_to-sure}
+use Rattle.game_theory.proofs.SureStrategyLemmas.{sure-not_negative, sum_to-sure}
 use Rattle.game_theory.specs.Trees.{Tree, IsTree}
 use Rattle.game_theory.specs.Behaviour.{Behaviour, IsValid, IsChoice, is_own, reply}
 use Rattle.game_theory.specs.Recall.{own_history, HasPerfectRecall}

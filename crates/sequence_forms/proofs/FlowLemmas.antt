@@ -8,8 +8,9 @@ use Rattle.rational.specs.Sum.{sum_to}
 use Rattle.rational.proofs.Field.{nonneg-mul, eq-sub}
 use Rattle.rational.proofs.SumLemmas.{sum_to-same, sum_to-scale_right, each_zero}
 use Rattle.rational.proofs.Rules.{one-*ℚ}
+use Rattle.rational.proofs.InverseLemmas.{zero_le_one}
 use Rattle.game_theory.specs.Mixed.{sure}
-use Rattle.game_theory.proofs.SureStrategyLemmas.{zero_le_one, sure-not_negative, sum_to-sure}
+use Rattle.game_theory.proofs.SureStrategyLemmas.{sure-not_negative, sum_to-sure}
 use Rattle.sequence_forms.specs.Sides.{Side, first, sequences, IsSide, IsOrderedSide, IsRealisationPlan}
 use Rattle.sequence_forms.specs.Matrices.{row_total, AreNotNegative}
 use Rattle.sequence_forms.specs.PriceLaws.{OrderedSidesHaveFlow}

@@ -9,8 +9,8 @@ use Rattle.rational.proofs.Rules.{one-*ℚ}
 use Rattle.rational.proofs.Field.{le_refl, le-sub, nonneg-mul}
 use Rattle.rational.proofs.SumLemmas.{sum_to-same, sum_to-sub, sum_to-scale, sum_to-neg, sum_to-nonneg}
 use Rattle.rational.proofs.Ring.{ring, num, ◌:+◌, ◌:*◌, ◌:-◌, :neg, A, B, C}
+use Rattle.rational.proofs.InverseLemmas.{zero_le_one}
 use Rattle.game_theory.specs.Profiles.{number_of}
-use Rattle.game_theory.proofs.SureStrategyLemmas.{zero_le_one}
 use Rattle.game_theory.specs.Trees.{Tree, IsTree}
 use Rattle.game_theory.specs.Behaviour.{branch_probability}
 use Rattle.reduced_strategies.proofs.HistoryLemmas.{along_paths}

@@ -7,11 +7,12 @@ use Rattle.rational.proofs.RationalRing.{rational_ring}
 use Rattle.rational.proofs.MeanLemmas.{mean-constant}
 use Rattle.rational.proofs.SumLemmas.{sum_to-first, sum_to-same, sum_to-scale, sum_to-exchange}
 use Rattle.rational.proofs.Ring.{ring, num, ◌:+◌, ◌:*◌, A, B, C, D}
+use Rattle.rational.proofs.InverseLemmas.{zero_le_one}
 use Rattle.game_theory.specs.Profiles.{Game, number_of}
 use Rattle.game_theory.specs.Mixed.{Mixed, later, mean, payoff, IsValid, sure, reply}
 use Rattle.game_theory.proofs.PayoffLemmas.{mean-first}
 use Rattle.game_theory.proofs.ReplyLemmas.{reply-at, reply-other, payoff-same}
-use Rattle.game_theory.proofs.SureStrategyLemmas.{zero_le_one, sure-not_negative, sum_to-sure}
+use Rattle.game_theory.proofs.SureStrategyLemmas.{sure-not_negative, sum_to-sure}
 use Rattle.sequence_forms.specs.Sides.{first, IsOrderedSide, sequences, IsRealisationPlan}
 use Rattle.sequence_forms.specs.PlanBehaviour.{of_two}
 use Rattle.sequence_forms.specs.Forms.{cell_sum, one_set, after_both, form_of_table, mixed_of_plans, WeighsOne}

@@ -4,15 +4,14 @@ use Rattle.std.specs.List.{AllPairs}
 use Rattle.std.specs.List.Sorted.{IsPermutation, IsSorted}
 use Rattle.std.specs.Ordering.{nat_cmp, is_lt, ordering_then}
 use Rattle.std.specs.Prelude.{nat_eq}
-use Rattle.std.specs.declared.cmp.Ordering.TheVariants.{Less, Equal}
 use Rattle.std.specs.Cmp.Lexicographic.{slice_cmp, pointwise, bytes_decides, nat_list_eq_equiv}
 use Rattle.std.proofs.lemmas.Bool.{cases_eq, cases_lt}
-use Rattle.std.proofs.lemmas.Bool.Decides.{nat_tests}
 use Rattle.std.proofs.lemmas.List.Sorted.{IsPermutation-refl, IsPermutation-sym, IsPermutation-trans, IsPermutation-cons, IsPermutation-middle, All-permutation}
 use Rattle.std.proofs.lemmas.Map.Keys.{IsDistinct-IsPermutation}
 use Rattle.std.proofs.lemmas.Map.Made.{AllPairs-from_IsDistinct, IsDistinct-from_AllPairs}
 use Rattle.lists.proofs.OrderLemmas.{AreAscending-rest}
 use Rattle.lists.specs.Orders.{ComesBefore, AreAscending}
+use Rattle.lists.proofs.NumberLemmas.{nat_cmp-less, nat_cmp-same}
 use Rattle.strategy_lists.proofs.EndListLemmas.{Differ}
 
 -- ---- an order by insertion
@@ -70,20 +69,13 @@ ascending_order n (x ∷ xs) long differ =
     (found.0, found.1.ascending, IsPermutation-trans (x ∷ xs) (x ∷ rest.0) found.0 (IsPermutation-cons x xs rest.0 rest.2) found.1.permutation)
 
 -- ---- the order that a sort gives
--- a number compares to a greater one and to itself
-nat_cmp-less : (a b : ℕ) → b < a → nat_cmp b a ≡ Less
-nat_cmp-less a b l = grind (arith, nat_tests)
-
-nat_cmp-same : (a b : ℕ) → a ≡ b → nat_cmp b a ≡ Equal
-nat_cmp-same a b e = grind (arith, nat_tests)
-
 -- a comparison of lists that begin with the same number
 cmp-same : (a b : ℕ) (x y : List ℕ) → a ≡ b → is_lt (slice_cmp nat_cmp (b ∷ y) (a ∷ x)) ≡ is_lt (slice_cmp nat_cmp y x)
-cmp-same a b x y e = ap (λ o. is_lt (ordering_then o (slice_cmp nat_cmp y x))) (nat_cmp-same a b e)
+cmp-same a b x y e = ap (λ o. is_lt (ordering_then o (slice_cmp nat_cmp y x))) (nat_cmp-same b a (sym e))
 
 -- a list that begins with a smaller number is less
 cmp-less : (a b : ℕ) (x y : List ℕ) → b < a → is_lt (slice_cmp nat_cmp (b ∷ y) (a ∷ x)) ≡ true
-cmp-less a b x y l = ap (λ o. is_lt (ordering_then o (slice_cmp nat_cmp y x))) (nat_cmp-less a b l)
+cmp-less a b x y l = ap (λ o. is_lt (ordering_then o (slice_cmp nat_cmp y x))) (nat_cmp-less b a l)
 
 -- of two lists of one length that differ, the first comes before the second if that is not less
 pub before_from_cmp : (x y : List ℕ) → length x ≡ length y → x ≢ y → is_lt (slice_cmp nat_cmp y x) ≡ false → ComesBefore x y

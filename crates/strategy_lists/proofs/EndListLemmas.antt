@@ -7,7 +7,7 @@ use Rattle.std.proofs.lemmas.Bool.{cases_eq, cases_lt, eq-eqb}
 use Rattle.std.proofs.lemmas.Bool.Decides.{eqb_tells}
 use Rattle.std.proofs.lemmas.List.{ext_get_or, get_or-set_same, get_or-set_other, length-replicate}
 use Rattle.std.proofs.lemmas.List.Elements.{All-nil, All-cons, All-append, Contains-append_left, Contains-append_right}
-use Rattle.std.proofs.lemmas.List.Kept.{AllPairs-cons}
+use Rattle.lists.proofs.ElementLemmas.{AllPairs-append}
 use Rattle.strategy_lists.specs.declared.decision.Decision.{Decision}
 use Rattle.strategy_lists.specs.Reduced.{AreLinked, IsReducedBy}
 use Rattle.strategy_lists.specs.Ends.{is_led_to, ends}
@@ -27,14 +27,6 @@ Contains-branches each a (suc n) b x low high c = elim (cases_eq b a) [
   | inl e ↦ Contains-append_left (each a) (flat_map each (range_with_len (a + 1) n)) x (subst (λ v. Contains (each v) x) e c)
   | inr ne ↦ Contains-append_right (each a) (flat_map each (range_with_len (a + 1) n)) x (Contains-branches each (a + 1) n b x (omega arith) (omega arith) c)
 ]
-
--- a relation between each two of two lists and between them
-AllPairs-append : (R : List ℕ → List ℕ → Type 0) (xs ys : List (List ℕ)) → AllPairs R xs → AllPairs R ys → All (λ x. All (R x) ys) xs → AllPairs R (xs ++ ys)
-AllPairs-append R [] ys p q c = q
-AllPairs-append R (x ∷ xs) ys p q c =
-    AllPairs-cons R x (xs ++ ys)
-    (All-append (R x) xs ys (λ k d l. p 0 (suc k) d (omega arith) (omega arith)) (c 0 x (omega arith)))
-    (AllPairs-append R xs ys (λ i j d l m. p (suc i) (suc j) d (omega arith) (omega arith)) q (λ k d l. c (suc k) d (omega arith)))
 
 -- two lists differ
 abbrev pub Differ : List ℕ → List ℕ → Type 0

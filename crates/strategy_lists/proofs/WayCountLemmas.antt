@@ -5,9 +5,10 @@ use Rattle.std.specs.List.{range_with_len, sum, sum_by}
 use Rattle.std.proofs.Math.ListN as lists
 use Rattle.std.proofs.Math.Seq.{drop-length}
 use Rattle.std.proofs.lemmas.Bool.{cases_eq, cases_lt, ne_eqb, eq-eqb}
-use Rattle.std.proofs.lemmas.List.{get_or-set_same, get_or-set_other, get_or_append_left, get_or_push, length_push, map-append, length-map, length-replicate, get_or-replicate, get_or-map, map-set}
+use Rattle.std.proofs.lemmas.List.{get_or-set_same, get_or-set_other, get_or_append_left, get_or_push, length_push, map-append, length-map, length-replicate, get_or-replicate, map-set}
 use Rattle.std.proofs.lemmas.List.Sums.{sum_by-cons, sum_by_more}
 use Rattle.std.proofs.lemmas.Option.{slice_get_within}
+use Rattle.lists.proofs.ElementLemmas.{part-read}
 use Rattle.strategy_lists.specs.declared.decision.Decision.{Decision}
 use Rattle.strategy_lists.specs.declared.decision.Edge.{Edge}
 use Rattle.strategy_lists.specs.Reduced.{ComesFrom, AreLinked}
@@ -222,23 +223,19 @@ first-stays decisions actions n limit first d edge at before is =
     ∙ ap (λ o. if is_first o then sum_by (λ a. ways_where decisions actions (suc n) (leads_from n a)) (range_with_len 1 (get_or actions d.place 0)) * ways_where decisions actions (suc n) is_first else ways_where decisions actions (suc n) is_first) before))
 
 -- ---- the loop's turns
--- the list at a place
-pub row-at : {V : Type 0} (items : V → List ℕ) (rows : List V) (k : ℕ) (v : V) → k < length rows → v ≡ get_or rows k v → items v ≡ get_or (map items rows) k []
-row-at items rows k v within is = ap items is ∙ sym (get_or-map items rows k v [] within)
-
 -- the limited sum of the row of a decision is that of its ways
 pub ways-summed : {V : Type 0} (items : V → List ℕ) (decisions : List Decision) (actions : List ℕ) (n limit ways : ℕ) (rows : List V) (d : Decision) (v : V) (row : List ℕ) → AreAfter decisions actions (suc n) limit (map items rows) → slice_get decisions n ≡ Some d
     → v ≡ get_or rows n v → row ≡ items v → ways ≡ min (sum row) limit → ways ≡ min (sum_by (λ a. ways_where decisions actions (suc n) (leads_from n a)) (range_with_len 1 (get_or actions d.place 0))) limit
 ways-summed items decisions actions n limit ways rows d v row b at is row_is ways_are =
     let within : n < length rows = omega (arith, slice_get_within decisions n d at, b.one_for_each, length-map rows items) in
-    ways_are ∙ ap (λ w. min (sum w) limit) (row_is ∙ row-at items rows n v within is) ∙ sum-following decisions actions n limit (map items rows) d b at
+    ways_are ∙ ap (λ w. min (sum w) limit) (row_is ∙ part-read items rows n v [] within is) ∙ sum-following decisions actions n limit (map items rows) d b at
 
 -- the rows with one that was multiplied
 pub AreAfter-multiplied : {V : Type 0} (items : V → List ℕ) (decisions : List Decision) (actions : List ℕ) (n limit ways : ℕ) (rows : List V) (d : Decision) (edge : Edge) (old new : V) → slice_get decisions n ≡ Some d → d.before ≡ Some edge → AreAfter decisions actions (suc n) limit (map items rows)
     → 0 < limit → ways ≡ min (sum_by (λ a. ways_where decisions actions (suc n) (leads_from n a)) (range_with_len 1 (get_or actions d.place 0))) limit → edge.decision < length rows → old ≡ get_or rows edge.decision old → items new ≡ set (items old) edge.action (min (get_or (items old) edge.action 0 * ways) limit)
     → AreAfter decisions actions n limit (map items (set rows edge.decision new))
 AreAfter-multiplied items decisions actions n limit ways rows d edge old new at before b positive ways_are within old_is new_is =
-    let row = row-at items rows edge.decision old within old_is in
+    let row = part-read items rows edge.decision old [] within old_is in
     let all : map items (set rows edge.decision new) ≡ set (map items rows) edge.decision (set (get_or (map items rows) edge.decision []) edge.action (min (get_or (get_or (map items rows) edge.decision []) edge.action 0 * ways) limit)) =
     map-set items rows edge.decision new ∙ ap (set (map items rows) edge.decision) (new_is ∙ ap (λ w. set w edge.action (min (get_or w edge.action 0 * ways) limit)) row) in
     subst (AreAfter decisions actions n limit) (sym all) (AreAfter-edge decisions actions n limit (map items rows) d edge at before b ways positive ways_are (omega (arith, length-map rows items)))

@@ -1,15 +1,12 @@
 -- The nodes of all cuts, found one after another.
-use Rattle.std.proofs.Common.{ℕ, zero, suc, ◌+◌, ◌<◌, ◌≤◌, ◌≡◌, ◌≢◌, ◌⊎◌, inl, inr, Err, Option, Some, None, List, [], ◌∷◌, ◌++◌, length, get_or, set, replicate, take, refl, sym, ap, ◌∙◌, subst, add-one, arith}
+use Rattle.std.proofs.Common.{ℕ, zero, suc, ◌+◌, ◌<◌, ◌≤◌, ◌≡◌, ◌≢◌, ◌⊎◌, inl, inr, Option, Some, None, List, [], ◌∷◌, ◌++◌, length, get_or, set, replicate, take, refl, sym, ap, ◌∙◌, subst, add-one, arith}
 use Rattle.std.specs.Prelude.{All, Contains}
-use Rattle.std.specs.List.Sorted.{IsBinarySearchResult, IsStrictlyIncreasing}
-use Rattle.std.specs.Ordering.{nat_cmp}
+use Rattle.std.specs.List.Sorted.{IsStrictlyIncreasing}
 use Rattle.std.proofs.Math.Seq.{take-length}
 use Rattle.std.proofs.lemmas.Bool.{cases_eq, cases_lt}
 use Rattle.std.proofs.lemmas.List.{get_or-replicate, get_or-set_other, get_or-set_same, get_or_append_left, get_or_push, length-replicate, length-set, length_push, take_more}
 use Rattle.std.proofs.lemmas.List.Elements.{Contains-get_or}
 use Rattle.std.proofs.lemmas.List.Kept.{AllPairs-from_increasing}
-use Rattle.std.proofs.lemmas.List.Sorted.{searched}
-use Rattle.lists.proofs.ElementLemmas.{index_of}
 use Rattle.game_theory.specs.Trees.{Tree, IsTree}
 use Rattle.game_core.specs.Tree.{GameTree}
 use Rattle.game_core.specs.TreeGame.{game_of_tree}
@@ -163,22 +160,6 @@ index-once numbers k (Some i) (Some j) rises one two = ap Some (elim (cases_lt i
   | inl less ↦ absurd (omega (arith, one.1, two.1, AllPairs-from_increasing numbers rises i j 0 less two.0))
   | inr more ↦ elim (cases_eq i j) [ inl is ↦ is | inr other ↦ absurd (omega (arith, one.1, two.1, AllPairs-from_increasing numbers rises j i 0 (omega (arith, more, other)) one.0)) ]
 ])
-
--- a search that fails finds no number
-pub number-missed : (numbers : List ℕ) (k i : ℕ) → IsStrictlyIncreasing numbers → IsBinarySearchResult (λ y. nat_cmp y k) numbers (Err i) → ¬ Contains numbers k
-number-missed numbers k i rises answer there =
-    let missed = searched numbers k (Err i) answer not_falling in
-    let at = index_of numbers k there in
-    elim (cases_lt at.0 i) [
-      | inl early ↦ absurd (omega (arith, missed.1 at.0 early, at.2))
-      | inr late ↦ absurd (omega (arith, missed.2 at.0 late at.1, at.2))
-    ]
-  where
-    not_falling : (a b : ℕ) → a ≤ b → b < length numbers → get_or numbers a 0 ≤ get_or numbers b 0
-    not_falling a b few below = elim (cases_eq a b) [
-      | inl same ↦ omega (arith, ap (λ n. get_or numbers n 0) same)
-      | inr other ↦ omega (arith, AllPairs-from_increasing numbers rises a b 0 (omega (arith, few, other)) below)
-    ]
 
 -- numbers below a bound have indices
 pub some-indices : (numbers : List ℕ) (bound : ℕ) → All (λ k. k < bound) numbers → (indices : List (Option ℕ)) × AreIndicesIn numbers bound indices

@@ -25,10 +25,11 @@ pub mod MemberListLemmas
 pub mod OneTextLaws
 pub mod RootLemmas
 pub mod SetReadLemmas
-pub mod SplitLemmas
+pub mod SpanLemmas
 pub mod StabilityLemmas
 pub mod StableAnswerLemmas
 pub mod StableLineLemmas
+pub mod SubtreeOrderLemmas
 pub mod ValueCountLemmas
 pub mod ValueIndexLemmas
 pub mod ValueListLemmas

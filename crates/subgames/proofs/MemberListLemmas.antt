@@ -1,7 +1,8 @@
 -- The nodes that name each set, one node after another.
 use Rattle.std.proofs.Common.{ℕ, ◌+◌, ◌<◌, ◌≡◌, inl, inr, Option, Some, None, List, [], ◌∷◌, ◌++◌, length, get_or, map, replicate, set, take, refl, sym, ap, ◌∙◌, subst, arith}
 use Rattle.std.proofs.lemmas.Bool.{cases_eq, eqb-true, eq-eqb, false_from_ne_true}
-use Rattle.std.proofs.lemmas.List.{get_or-map, get_or-replicate, get_or-set_other, get_or-set_same, length-map, length-replicate, length-set, length-take-le, map-set, take_more}
+use Rattle.std.proofs.lemmas.List.{get_or-replicate, get_or-set_other, get_or-set_same, length-map, length-replicate, length-set, length-take-le, map-set, take_more}
+use Rattle.lists.proofs.ElementLemmas.{part-read}
 use Rattle.game_theory.specs.Behaviour.{is_index}
 use Rattle.game_theory.specs.OwnSets.{places_with}
 use Rattle.game_theory.proofs.IndexLemmas.{places_with-last, places_with-other}
@@ -45,10 +46,6 @@ module _ (names : List (Option ℕ)) (k count : ℕ) (lists : List (List ℕ)) (
             get_or-set_other lists s r list [] other ∙ h.are r inside
             ∙ sym (places_with-other (λ (name : Option ℕ). name) (take k names) (get_or names k None) r (ap (λ o. is_index o r) is ∙ false_from_ne_true _ (λ e. other (sym (eqb-true s r e)))))
       ]
-
--- a part of an element that is read
-pub part-read : {V W : Type 0} (f : V → W) (xs : List V) (k : ℕ) (x : V) (d : W) → k < length xs → x ≡ get_or xs k x → f x ≡ get_or (map f xs) k d
-part-read f xs k x d inside is = ap f is ∙ sym (get_or-map f xs k x d inside)
 
 -- a list that takes one more number, where each list is part of something else
 pub pushed-at : {V : Type 0} (f : V → List ℕ) (lists : List V) (s x : ℕ) (old new : V) → s < length lists → old ≡ get_or lists s old → f new ≡ f old ++ x ∷ [] → f new ≡ get_or (map f lists) s [] ++ x ∷ []

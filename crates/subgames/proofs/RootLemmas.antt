@@ -1,29 +1,20 @@
 -- The members of a set, and the nodes at which subgames begin, as they are found one after another.
-use Rattle.std.proofs.Common.{ℕ, ◌+◌, ◌<◌, ◌≡◌, ◌⊎◌, inl, inr, Bool, true, false, not, Option, Some, None, List, [], ◌∷◌, ◌++◌, length, get_or, slice_get, refl, sym, ap, ◌∙◌, subst, arith}
+use Rattle.std.proofs.Common.{ℕ, ◌+◌, ◌<◌, ◌≡◌, ◌⊎◌, inl, inr, Bool, true, false, Option, Some, None, List, [], ◌∷◌, ◌++◌, length, get_or, slice_get, sym, ap, ◌∙◌, subst, arith}
 use Rattle.std.specs.Prelude.{◌↔◌, Contains, IsTrue, nat_eq}
 use Rattle.std.specs.List.Sorted.{IsStrictlyIncreasing}
 use Rattle.std.proofs.lemmas.Bool.{cases_eq, cases_lt, eqb-true, eq-eqb}
 use Rattle.std.proofs.lemmas.List.{get_or_append_left, get_or_push, length_push}
 use Rattle.std.proofs.lemmas.List.Elements.{Contains-get_or, Contains-append_left, Contains-push, Contains-push_cases}
-use Rattle.std.proofs.lemmas.Option.{slice_get-get_or, slice_get_within, get_or_from_slice_get, same_Some}
+use Rattle.std.proofs.lemmas.Option.{slice_get_within, same_Some}
 use Rattle.lists.proofs.ElementLemmas.{element}
 use Rattle.game_theory.specs.OwnSets.{numbers_with}
 use Rattle.game_theory.proofs.IndexLemmas.{numbers_with-at, numbers_with-tell, numbers_with-ascend}
 use Rattle.game_theory.specs.Trees.{Tree}
-use Rattle.subgames.specs.Splits.{IsMarked}
-use Rattle.subgames.specs.FoundSubgames.{AreRootMarks}
+use Rattle.subgames.specs.FoundSubgames.{AreRootMarks, IsMarked}
 use Rattle.subgames.specs.Roots.{BeginsAlone, HasWholeSets, IsSubgameRoot}
 
 -- ---- numbers with an index
 module _ (index : ℕ → Option ℕ) (i n : ℕ) where
-  -- they are those below n that have it
-  pub numbers_with-are : (k : ℕ) → Contains (numbers_with index i n) k ↔ ((k < n) × (index k ≡ Some i))
-  numbers_with-are k = (
-    λ h. let found = numbers_with-tell index i n h.0 k (slice_get-get_or (numbers_with index i n) h.0 k h.1 ∙ ap Some h.2) in (found.0, found.1),
-    λ h. let at = length (numbers_with index i k) in let found = numbers_with-at index i k n h.0 h.1 in
-        (at, slice_get_within (numbers_with index i n) at k found, get_or_from_slice_get (numbers_with index i n) at k k found),
-  )
-
   -- there is one number exactly where each number with the index is that number
   pub numbers_with-one : (k : ℕ) → k < n → index k ≡ Some i → (length (numbers_with index i n) ≡ 1) ↔ ((c : ℕ) → c < n → index c ≡ Some i → c ≡ k)
   numbers_with-one k below here = (same, one)
@@ -106,10 +97,9 @@ begins_alone-of_player t k s members below here owned are = (
     others r at (inl chance) = absurd (owned (ap t.owner (same_Some s r (sym here ∙ at)) ∙ chance))
     others r at (inr single) = λ c l is. single c l (is ∙ sym here ∙ at)
 
--- at a node that begins alone, and is not the root, a subgame begins where it has no mark
-pub root-unmarked : (t : Tree) (k : ℕ) (mark : Bool) → (k ≡ 0 → ⊥) → BeginsAlone t k → HasWholeSets t k ↔ (mark ≡ true → ⊥) → (not mark ≡ true) ↔ IsSubgameRoot t k
-root-unmarked t k true other alone whole = (λ e. cc, λ root. elim root [ inl first ↦ absurd (other first) | inr h ↦ absurd (whole.0 h.1 refl) ])
-root-unmarked t k false other alone whole = (λ e. inr (alone, whole.1 (λ e. cc)), λ root. refl)
+-- at a node that begins alone, and is not the root, a subgame begins where the subtree splits no set
+pub root-whole : (t : Tree) (k : ℕ) (whole : Bool) → (k ≡ 0 → ⊥) → BeginsAlone t k → IsTrue whole ↔ HasWholeSets t k → IsTrue whole ↔ IsSubgameRoot t k
+root-whole t k whole other alone told = (λ e. inr (alone, told.0 e), λ root. elim root [ inl first ↦ absurd (other first) | inr h ↦ told.1 h.1 ])
 
 -- ---- marks where subgames begin
 -- for each node below n whether a subgame begins there

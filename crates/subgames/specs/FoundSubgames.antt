@@ -1,5 +1,5 @@
 -- Where the subgames of a tree begin, as it was found, and the cuts there.
-use Rattle.std.specs.Prelude.{ℕ, ◌<◌, ◌≡◌, ◌↔◌, Bool, List, [], Contains, length, slice_index_or, refl}
+use Rattle.std.specs.Prelude.{ℕ, ◌<◌, ◌≡◌, ◌↔◌, Bool, IsTrue, List, [], Contains, false, length, slice_index_or, refl}
 use Rattle.std.specs.Coded.{Coded, code_by, coded×, coded_bool, coded_list, coded_ℕ}
 use Rattle.std.specs.List.Sorted.{IsStrictlyIncreasing}
 use Rattle.game_theory.specs.Trees.{Tree}
@@ -7,7 +7,10 @@ use Rattle.game_core.specs.Tree.{GameTree}
 use Rattle.game_core.specs.TreeGame.{game_of_tree}
 use Rattle.subgames.specs.CutGames.{IsInCut}
 use Rattle.subgames.specs.Roots.{IsSubgameRoot}
-use Rattle.subgames.specs.Splits.{IsMarked}
+
+-- whether node k is marked
+abbrev pub IsMarked : List Bool → ℕ → Type 0
+IsMarked marks k = IsTrue (slice_index_or marks k false)
 
 -- for each node whether a subgame begins there
 pub record AreRootMarks (t : Tree) (begins : List Bool) : Type 0 where

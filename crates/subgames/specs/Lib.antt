@@ -7,7 +7,7 @@ pub mod FoundSubgames
 pub mod Games
 pub mod MadeCuts
 pub mod Roots
-pub mod Splits
+pub mod Spans
 pub mod Stability
 pub mod Stable
 pub mod Stops

@@ -10,9 +10,11 @@
 //! and in which steps, `Choices` how choices are numbered, `Stops` what a tree answers.
 //! `CutGames` says what the cut at a node is, `CutTrees` and `MadeCuts` what is so as a tree,
 //! `FoundSubgames` what was found of a tree, `CutLaws` what holds of cuts.
-//! Private words: `specs::Splits`, where subtrees split a set, `CutParts`, of which parts a cut is
-//! made, and `Games`, the games at a node.
-//! A change here touches: `refusals`, `gambit_tools` and what `enumpure -A` and `-P` print.
+//! Private words: `specs::Spans`, how far subtrees and the players' sets in them reach,
+//! `CutParts`, of which parts a cut is made, and `Games`, the games at a node.
+//! Lemmas for callers: `proofs::CutWalkLemmas`, `CutWorthLemmas`, `CutNodeLemmas`, `OneTextLaws`.
+//! A change here touches: `refusals`, `two_player_tools`, `gambit_tools`, and what `enumpure -A`,
+//! `enumpure -P`, `lcp -P` and `lp -P` print.
 #![tactic(auto)]
 
 mod choices;

@@ -1,63 +1,99 @@
 // The nodes at which subgames begin.
-ghost use Rattle.std.specs.Prelude.{◌≡◌, ◌<◌, ◌↔◌, All, Contains, IfOk, IsTrue, length, true};
+ghost use Rattle.std.specs.Prelude.{◌≡◌, ◌<◌, ◌↔◌, IfOk, IsTrue, length, max, min, true};
 ghost use Rattle.game_core.specs.TreeGame.{game_of_tree};
-ghost use Rattle.subgames.specs.Splits.{AddsMarks, AreSplitMarks, SplitsAmong, Separates};
+ghost use Rattle.subgames.specs.Spans.{AreOwnSpans, AreSpans, IsOwnSpan};
 ghost use Rattle.subgames.specs.FoundSubgames.{AreRootMarks};
-ghost use Rattle.subgames.specs.Roots.{AreTestNodes, BeginsAlone, IsSubgameRoot};
+ghost use Rattle.subgames.specs.Roots.{AreTestNodes, BeginsAlone, HasWholeSets, IsSubgameRoot};
 
 use frac128::Memory;
 use game_core::Tree;
-use game_core::tree_parts::{owner, parent, set, stands_for_game_tree};
+use game_core::tree_parts::{choice_at, owner, parent, set, stands_for_game_tree};
 use std::alloc::Global;
 
-// Marks the nodes whose subtree has exactly one of two nodes.
-fn mark_between(tree: &Tree, split: &mut [bool], one: usize, other: usize)
-    requires one { one < length tree.now.nodes }
-    requires other { other < length tree.now.nodes }
-    requires reach { length split.old ≡ length tree.now.nodes }
-    ensures { AddsMarks (λ k. Separates (game_of_tree tree.now) k one other) split.old split.new }
+// How far a node's subtree reaches, and the players' sets of the nodes in it. A node without a
+// player's set counts as a set of its own.
+#[derive(Clone, Copy, Debug)]
+struct Span {
+    // The least first member of those sets.
+    least: u32,
+    // The greatest last member of those sets.
+    greatest: u32,
+    // The last node of the subtree.
+    last: u32,
+}
+
+// The span of two subtrees together.
+fn joined(one: Span, other: Span) -> Span
+    ensures least { result.least ≡ min one.least other.least }
+    ensures greatest { result.greatest ≡ max one.greatest other.greatest }
+    ensures last { result.last ≡ max one.last other.last }
 {
-    stands_for_game_tree(tree);
-    let mut here = one;
-    let mut there = other;
-    while here != there {
-        if here < there {
-            split[there] = true;
-            there = parent(tree, there);
-        } else {
-            split[here] = true;
-            here = parent(tree, here);
-        }
+    Span {
+        least: one.least.min(other.least),
+        greatest: one.greatest.max(other.greatest),
+        last: one.last.max(other.last),
     }
 }
 
-// Marks the nodes whose subtree has some of these nodes and lacks others.
-fn mark_splits(tree: &Tree, split: &mut [bool], members: &[u32])
-    requires some { 0 < length members.now }
-    requires within { All (λ c. c < length tree.now.nodes) members.now }
-    requires reach { length split.old ≡ length tree.now.nodes }
-    ensures { AddsMarks (λ k. SplitsAmong (game_of_tree tree.now) k (Contains members.now))
-        split.old split.new }
+// The span of a node alone.
+fn own_span(tree: &Tree, node: usize) -> Span
+    requires { node < length tree.now.nodes }
+    ensures { IsOwnSpan (game_of_tree tree.now) node result }
 {
     stands_for_game_tree(tree);
-    let first = members[0] as usize;
-    for member in members {
-        mark_between(tree, split, first, *member as usize);
+    let last = node as u32;
+    match choice_at(tree, node) {
+        Some((_, set)) => {
+            let members = tree.sets()[set as usize].members();
+            Span {
+                least: members[0],
+                greatest: members[members.len() - 1],
+                last,
+            }
+        }
+        None => Span {
+            least: last,
+            greatest: last,
+            last,
+        },
     }
 }
 
-// For each node whether its subtree has some of a player's set and lacks others.
-fn split_marks(alloc: Global, tree: &Tree) -> Result<Vec<bool>, Memory>
-    ensures { IfOk result (λ split. AreSplitMarks (game_of_tree tree.now) split.items) }
+// For each node its span alone.
+fn own_spans(alloc: Global, tree: &Tree) -> Result<Vec<Span>, Memory>
+    ensures { let t = game_of_tree tree.now in
+        IfOk result (λ spans. AreOwnSpans t t.size spans.items) }
+{
+    let mut spans = Vec::with_capacity(alloc, tree.nodes().len())?;
+    for node in 0..tree.nodes().len() {
+        spans.push(own_span(tree, node))?;
+    }
+    Ok(spans)
+}
+
+// For each node the span of its subtree. From the last node to the first each span is joined to
+// its parent's.
+fn subtree_spans(alloc: Global, tree: &Tree) -> Result<Vec<Span>, Memory>
+    ensures { IfOk result (λ spans. AreSpans (game_of_tree tree.now) spans.items) }
 {
     stands_for_game_tree(tree);
-    let mut split = vec![in alloc; false; tree.nodes().len()]?;
-    for number in 0..tree.sets().len() {
-        if owner(tree, number).is_some() {
-            mark_splits(tree, split.as_mut_slice(), tree.sets()[number].members());
-        }
+    let mut spans = own_spans(alloc, tree)?;
+    for node in (1..tree.nodes().len()).rev() {
+        let above = parent(tree, node);
+        spans[above] = joined(spans[above], spans[node]);
     }
-    Ok(split)
+    Ok(spans)
+}
+
+// Whether the subtree of a node splits no player's set.
+fn has_whole_sets(tree: &Tree, spans: &[Span], node: usize) -> bool
+    requires node { node < length tree.now.nodes }
+    requires spans { AreSpans (game_of_tree tree.now) spans.now }
+    ensures { IsTrue result ↔ HasWholeSets (game_of_tree tree.now) node }
+{
+    stands_for_game_tree(tree);
+    let span = spans[node];
+    span.least as usize >= node && span.greatest <= span.last
 }
 
 // Whether a node is one of chance, or alone in its set.
@@ -76,12 +112,12 @@ fn begins_alone(tree: &Tree, node: usize) -> bool
 }
 
 // Whether a subgame begins at a node.
-fn is_subgame_root(tree: &Tree, split: &[bool], node: usize) -> bool
+fn is_subgame_root(tree: &Tree, spans: &[Span], node: usize) -> bool
     requires node { node < length tree.now.nodes }
-    requires split { AreSplitMarks (game_of_tree tree.now) split.now }
+    requires spans { AreSpans (game_of_tree tree.now) spans.now }
     ensures { IsTrue result ↔ IsSubgameRoot (game_of_tree tree.now) node }
 {
-    node == 0 || (begins_alone(tree, node) && !split[node])
+    node == 0 || (begins_alone(tree, node) && has_whole_sets(tree, spans, node))
 }
 
 /// For each node whether a subgame begins there.
@@ -89,10 +125,10 @@ pub(crate) fn root_marks(alloc: Global, tree: &Tree) -> Result<Vec<bool>, Memory
     ensures { IfOk result (λ begins. AreRootMarks (game_of_tree tree.now) begins.items) }
 {
     stands_for_game_tree(tree);
-    let split = split_marks(alloc, tree)?;
+    let spans = subtree_spans(alloc, tree)?;
     let mut begins = Vec::with_capacity(alloc, tree.nodes().len())?;
     for node in 0..tree.nodes().len() {
-        begins.push(is_subgame_root(tree, &split, node))?;
+        begins.push(is_subgame_root(tree, &spans, node))?;
     }
     Ok(begins)
 }

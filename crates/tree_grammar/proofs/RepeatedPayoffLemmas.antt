@@ -11,16 +11,12 @@ use Rattle.file_parts.proofs.TokenLaws.{left_is}
 use Rattle.written_trees.specs.Building.{repeats_payoffs}
 use Rattle.tree_grammar.proofs.PartValueLemmas.{payoff_list_at, payoffs_repeated_at, later_payoffs_at}
 use Rattle.lists.specs.Options.{◌>>=◌}
+use Rattle.lists.proofs.OptionLemmas.{bind_last}
 use Rattle.rational.specs.Tests.{eq_ℚ}
 
 -- the tokens after the brace that closes these payoffs, where they repeat the others
 abbrev closed_repeating : List ℚ → List ℚ × List Token → Option (List Token)
 closed_repeating payoffs x = right_at x.1 >>= λ rest. if pointwise eq_ℚ x.0 payoffs then Some rest else None
-
--- what is given on as it is
-given_on : (o : Option (List Token)) → (o >>= λ rest. Some rest) ≡ o
-given_on None = refl
-given_on (Some rest) = refl
 
 -- what is given up in any case
 abbrev nothing : List Token → Option (List Token)
@@ -38,7 +34,7 @@ one_compared one own payoffs (Some y) repeated h = elim (cases_Bool (eq_ℚ one 
 
 -- payoffs that are compared when all are read, or one by one
 compared : (i : ℕ) (payoffs : List ℚ) (tokens : List Token) → (repeat_at payoff_at i (length payoffs) tokens >>= closed_repeating payoffs) ≡ (payoffs_repeated_at i payoffs tokens >>= right_at)
-compared i [] tokens = given_on (right_at tokens)
+compared i [] tokens = bind_last (right_at tokens)
 compared i (own ∷ payoffs) tokens = by (payoff_at i tokens) (compared (suc i) payoffs)
   where
     by : (next : Option (ℚ × List Token)) → ((after : List Token) → (repeat_at payoff_at (suc i) (length payoffs) after >>= closed_repeating payoffs) ≡ (payoffs_repeated_at (suc i) payoffs after >>= right_at))

@@ -5,9 +5,9 @@ use Rattle.std.proofs.lemmas.Bool.{cases_eq, cases_lt}
 use Rattle.std.proofs.lemmas.List.{get_or_append_left, get_or_default, get_or-map, get_or-set_same, get_or-set_other, length-append, length-set}
 use Rattle.std.proofs.lemmas.List.Elements.{Contains-get_or}
 use Rattle.std.proofs.lemmas.Option.{none-some}
-use Rattle.std.specs.Prelude.{IfErr}
 use Rattle.std.specs.Result.{IsErrAnd}
-use Rattle.answers.specs.Answers.{Answer, Gives, map_ok, refused_by}
+use Rattle.answers.specs.Answers.{Gives, refused_by}
+use Rattle.answers.proofs.AnswerLemmas.{gives_stop}
 use Rattle.rational.specs.Rational.{ℚ, zero_ℚ}
 use Rattle.rational.specs.Sum.{entry_at}
 use Rattle.game_theory.specs.Behaviour.{Behaviour, payoff}
@@ -250,15 +250,10 @@ pub solved-none : (method : Method) (t : GameTree) (known : Known) → IsRoomFor
 solved-none method t known room = record { room = room; solved = λ m from below begins. absurd (omega (arith, from, below)) }
 
 -- ---- answers
--- a call that stops so gives this
-pub gives-stop : {E Z : Type 0} (memory : E) (p : Answer E Z) (r : E) (answer : Result Z E) → Gives memory p (Err r) → IsErrAnd answer (λ q. q ≡ r) → Gives memory p answer
-gives-stop memory p r (Ok z) g e = elim e [ ]
-gives-stop memory p r (Err q) g e = subst (λ r. Gives memory p (Err r)) (sym e) g
-
 -- where a cut is not solved, it is told why
 pub perfect-stop : (method : Method) (t : GameTree) (root : ℕ) (known : Known) (r : Refusal) (answer : Result (List ℚ) Refusal) → root < length t.nodes → IsSubgameRoot (game_of_tree t) root → AreSolvedFrom method t (root + 1) known → (r ≡ refusal.Memory) ⊎ IsStoppedAt method t (worth_in t known) root r → IsErrAnd answer (λ q. q ≡ r) → Gives refusal.Memory (perfect_in method t) answer
 perfect-stop method t root known r answer below begins later why e =
-    gives-stop refusal.Memory (perfect_in method t) r answer (elim why [
+    gives_stop refusal.Memory (perfect_in method t) r answer (elim why [
       | inl memory ↦ inl memory
       | inr stops ↦ inr (worth_in t known, behaviour_in known, root, below, begins, (λ m after within here. later.solved m (omega (arith, after)) within here), stops)
     ]) e
@@ -266,16 +261,6 @@ perfect-stop method t root known r answer below begins later why e =
 -- where all cuts are solved, so is the tree
 pub perfect-all : (method : Method) (t : GameTree) (known : Known) (entries : List ℚ) → AreSolvedFrom method t 0 known → entries ≡ tree_entries (game_of_tree t) (behaviour_in known) → perfect_in method t (Ok entries)
 perfect-all method t known entries h e = (worth_in t known, behaviour_in known, (λ n below begins. h.solved n (omega arith) below begins), e)
-
--- the same where the answer's value stands for another
-pub gives-stop-as : {E X Z : Type 0} (memory : E) (p : Answer E Z) (r : E) (answer : Result X E) (view : X → Z) → Gives memory p (Err r) → IsErrAnd answer (λ q. q ≡ r) → Gives memory p (map_ok answer view)
-gives-stop-as memory p r (Ok x) view g e = elim e [ ]
-gives-stop-as memory p r (Err q) view g e = subst (λ r. Gives memory p (Err r)) (sym e) g
-
--- what holds of the refusal that is given
-pub if-stop : {E X : Type 0} (P : E → Type 0) (r : E) (answer : Result X E) → P r → IsErrAnd answer (λ q. q ≡ r) → IfErr answer P
-if-stop P r (Ok x) h e = tt
-if-stop P r (Err q) h e = subst P (sym e) h
 
 -- where a cut has no behaviour, its refusal is told of the tree
 pub cut-unsolved : (method : Method) (n : ℕ) (cut : MadeCut) (r : Refusal) → Gives refusal.Memory (entries_by method cut.tree) (Err r) → Gives refusal.Memory (cut_in method n cut) (Err (in_subgame n cut.nodes r))

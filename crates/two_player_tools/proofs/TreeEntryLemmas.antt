@@ -2,7 +2,7 @@
 use Rattle.std.proofs.Common.{◌≡◌, List, Ok, Err, Result}
 use Rattle.std.specs.Result.{IsErrAnd}
 use Rattle.answers.specs.Answers.{Answer, Gives, ◌>>=◌, refused_by}
-use Rattle.answers.proofs.AnswerLemmas.{gives_bind, gives_first}
+use Rattle.answers.proofs.AnswerLemmas.{gives_bind, gives_first, gives_stop}
 use Rattle.rational.specs.Rational.{ℚ}
 use Rattle.game_core.specs.Tree.{GameTree}
 use Rattle.behaviour_profile.specs.Plans.{plan_behaviour}
@@ -14,7 +14,6 @@ use Rattle.refusals.specs.declared.refusal.Refusal.TheVariants as refusal
 use Rattle.two_player_tools.specs.Perfect.{entries_by, plans_by}
 use Rattle.two_player_tools.specs.TwoPlayers.{form_of_tree, rows_by}
 use Rattle.two_player_tools.specs.declared.forms.Method.{Method}
-use Rattle.two_player_tools.proofs.KnownCutLemmas.{gives-stop}
 
 -- the entries of the behaviour of two plans
 abbrev pub entries_of : GameTree → PlanPair → Answer Refusal (List ℚ)
@@ -23,7 +22,7 @@ entries_of t plans = refused_by behaviour_refusal (plan_behaviour t plans.one pl
 -- where a tree has no form, it has no behaviour
 pub entries-formless : (method : Method) (t : GameTree) (r : Refusal) (answer : Result (List ℚ) Refusal) → Gives refusal.Memory (form_of_tree (rows_by method) t) (Err r) → IsErrAnd answer (λ q. q ≡ r) → Gives refusal.Memory (entries_by method t) answer
 entries-formless method t r answer g e =
-    gives-stop refusal.Memory (entries_by method t) r answer (gives_first refusal.Memory (form_of_tree (rows_by method) t) (λ f. plans_by method f >>= entries_of t) r g) e
+    gives_stop refusal.Memory (entries_by method t) r answer (gives_first refusal.Memory (form_of_tree (rows_by method) t) (λ f. plans_by method f >>= entries_of t) r g) e
 
 module _ (method : Method) (t : GameTree) (f : FormData) (answer : Result (List ℚ) Refusal) (is_form : form_of_tree (rows_by method) t (Ok f)) where
   -- the behaviour of the form's plans is that of the tree
@@ -34,4 +33,4 @@ module _ (method : Method) (t : GameTree) (f : FormData) (answer : Result (List 
   -- where the form has no plans, the tree has no behaviour
   pub entries-stop : (r : Refusal) → Gives refusal.Memory (plans_by method f) (Err r) → IsErrAnd answer (λ q. q ≡ r) → Gives refusal.Memory (entries_by method t) answer
   entries-stop r g e =
-      gives_bind refusal.Memory (form_of_tree (rows_by method) t) (λ f. plans_by method f >>= entries_of t) f answer is_form (gives-stop refusal.Memory (plans_by method f >>= entries_of t) r answer (gives_first refusal.Memory (plans_by method f) (entries_of t) r g) e)
+      gives_bind refusal.Memory (form_of_tree (rows_by method) t) (λ f. plans_by method f >>= entries_of t) f answer is_form (gives_stop refusal.Memory (plans_by method f >>= entries_of t) r answer (gives_first refusal.Memory (plans_by method f) (entries_of t) r g) e)

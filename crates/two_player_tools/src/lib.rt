@@ -10,7 +10,7 @@
 //! plans, `Perfect` what they answer of a tree that is solved subgame by subgame; `LpLaws`, `LcpLaws`
 //! and `PerfectTexts` what holds of each text.
 //! Private words: `specs::Solved`, `PlanWeights` and `KnownCuts`, for code between stages.
-//! Lemmas for callers: `proofs::FormSingleLemmas`, `LpSingleLemmas`, `LcpSingleLemmas`.
+//! Lemmas for callers: `proofs::StrategicFormLemmas`, `FormSingleLemmas`.
 //! A change here touches: `gambit_tools`, docs/THEOREM.md.
 #![tactic(auto)]
 

@@ -5,14 +5,14 @@ use Rattle.std.proofs.lemmas.Bool.{cases_lt}
 use Rattle.std.proofs.lemmas.List.{get_or_past}
 use Rattle.rational.specs.Rational.{ℚ, zero_ℚ, one_ℚ, ◌≤ℚ◌}
 use Rattle.rational.proofs.Field.{le_refl, le_of_lt}
+use Rattle.rational.proofs.InverseLemmas.{zero_lt_one}
 use Rattle.linear_systems.specs.Reached.{IsVariableOf, in_row, in_column}
 use Rattle.lex_tableau.specs.Entries.{AreNumbered}
 use Rattle.lex_tableau.specs.Starts.{IsSystem, parts_of, system_of}
-use Rattle.linear_systems.proofs.SolutionLemmas.{one_positive}
 use Rattle.basis_enum.specs.Systems.{IsEnumerable}
 
 pub one_above : zero_ℚ ≤ℚ one_ℚ
-one_above = le_of_lt zero_ℚ one_ℚ one_positive
+one_above = le_of_lt zero_ℚ one_ℚ zero_lt_one
 
 -- the number at a place of a list of numbers
 numbered_at : (first n : ℕ) (xs : List ℕ) → AreNumbered first n xs → (i : ℕ) → i < length xs

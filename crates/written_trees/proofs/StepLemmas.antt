@@ -3,7 +3,7 @@ use Rattle.std.proofs.Common.{◌≡◌, ◌<◌, ◌≤◌, nat_lt, nat_le, Boo
 use Rattle.std.proofs.lemmas.Bool.Decides.{nat_tests}
 use Rattle.std.proofs.lemmas.Option.{same_Some}
 use Rattle.lists.specs.Options.{◌>>=◌}
-use Rattle.lists.proofs.OptionLemmas.{bind_some}
+use Rattle.lists.proofs.OptionLemmas.{bind_some, bind_last}
 use Rattle.game_core.specs.declared.tree.Node.{Node}
 use Rattle.game_core.specs.declared.too_large.What.{What}
 use Rattle.game_core.specs.declared.too_large.What.TheVariants.{Nodes, Depth}
@@ -16,11 +16,6 @@ use Rattle.written_trees.proofs.ListLemmas.{at_end}
 -- a further node within the limits
 abbrev pub next_node : PartialTree → WrittenNode → Option PartialTree
 next_node partial one = within_limits (passed partial) (add_node partial one)
-
--- nothing follows
-bind_last : {A : Type 0} (o : Option A) → (o >>= λ x. Some x) ≡ o
-bind_last None = refl
-bind_last (Some x) = refl
 
 -- chains of chains
 bind_bind : {A B C : Type 0} (o : Option A) (f : A → Option B) (g : B → Option C) → (o >>= λ x. f x >>= g) ≡ ((o >>= f) >>= g)

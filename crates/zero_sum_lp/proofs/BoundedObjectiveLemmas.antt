@@ -8,12 +8,11 @@ use Rattle.rational.specs.Sum.{sum_to}
 use Rattle.rational.proofs.Linear.{linear, at, lit, ◌⟨+⟩◌, ◌⟨-⟩◌, ◌⟨≤⟩◌, ◌⟨<⟩◌, ◌⟨=⟩◌}
 use Rattle.rational.proofs.Field.{lt_irrefl, le_antisymm}
 use Rattle.rational.proofs.SumLemmas.{sum_to-zeros, sum_to-nonneg, each_zero}
-use Rattle.rational.proofs.Rules.{zero-*ℚ}
+use Rattle.rational.proofs.Rules.{zero-*ℚ, times_zero}
 use Rattle.game_theory.specs.Mixed.{sure}
 use Rattle.game_theory.proofs.SureStrategyLemmas.{sure-other}
 use Rattle.linear_systems.specs.Tableau.{left}
 use Rattle.linear_systems.specs.Reached.{IsStart}
-use Rattle.linear_systems.proofs.RowLemmas.{times_zero}
 use Rattle.sequence_forms.specs.Sides.{Side, first, sequences, place, IsOrderedSide}
 use Rattle.sequence_forms.specs.Matrices.{set_row, row_total, column_total, AreNotNegative}
 use Rattle.sequence_forms.specs.Prices.{prices_after}

@@ -11,12 +11,13 @@ use Rattle.rational.proofs.Ring as R
 use Rattle.rational.proofs.Linear.{linear, at, lit, ◌⟨+⟩◌, ◌⟨-⟩◌, ◌⟨≤⟩◌, ◌⟨=⟩◌}
 use Rattle.rational.proofs.Field.{nonneg-mul, le_of_eq, le_of_lt}
 use Rattle.rational.proofs.SumLemmas.{sum_to-same, sum_to-neg, sum_to-zeros, sum_to-nonneg, sum_to-append}
+use Rattle.rational.proofs.Rules.{times_zero}
 use Rattle.linear_systems.specs.Lex.{IsLexPositive}
 use Rattle.linear_systems.specs.Rows.{unit_at, basic_solution, coefficient, key, row}
 use Rattle.linear_systems.specs.Reached.{IsReached, IsStart}
 use Rattle.linear_systems.proofs.LastRowLemmas.{last_row}
 use Rattle.linear_systems.proofs.SolutionLemmas.{solution_basic, solution_solves}
-use Rattle.linear_systems.proofs.RowLemmas.{unit_other, unit_nonneg, times_zero, coefficient_row, coefficient_cell, left_zero}
+use Rattle.linear_systems.proofs.RowLemmas.{unit_other, unit_nonneg, coefficient_row, coefficient_cell, left_zero}
 use Rattle.zero_sum_lp.proofs.ObjectiveGrowthLemmas.{IsLexicographicallyFeasible}
 use Rattle.zero_sum_lp.proofs.ProgramLemmas.{IsProgram, program_one, program_two, program_goal}
 use Rattle.zero_sum_lp.proofs.RayLemmas.{solves_start}

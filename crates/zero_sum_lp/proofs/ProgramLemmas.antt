@@ -10,6 +10,7 @@ use Rattle.rational.proofs.Field.{le_of_eq}
 use Rattle.rational.proofs.SumLemmas.{sum_to-same, sum_to-scale, sum_to-append, sum_to-zeros}
 use Rattle.rational.proofs.Ring.{ring, num, ◌:+◌, ◌:*◌, ◌:-◌, :neg}
 use Rattle.rational.proofs.Ring as R
+use Rattle.rational.proofs.Rules.{zero_times}
 use Rattle.linear_systems.specs.Tableau.{Tableau, left}
 use Rattle.linear_systems.specs.Rows.{unit_at, HasDistinctVariables}
 use Rattle.linear_systems.specs.Reached.{IsStart}
@@ -35,9 +36,6 @@ pub record IsProgram (h X k Y : ℕ) (E F A : ℕ → ℕ → ℚ) (s : Tableau)
   pub right_rest : (i : ℕ) → h ≤ i → i < suc (h + Y) → s.right i ≡ zero_ℚ
 
 -- ---- its rows at any values
-pub zero_times : (a b : ℚ) → a ≡ zero_ℚ → a *ℚ b ≡ zero_ℚ
-zero_times a b e = ap (λ x. x *ℚ b) e ∙ ring rational_ring (b ∷ []) (num 0 :* R.A) (num 0) refl
-
 left_parts : (X k : ℕ) (s : Tableau) (x : ℕ → ℚ) (i : ℕ) → s.width ≡ X + k → left s x i ≡ x (s.basic i) +ℚ (sum_to X (λ j. s.cell i j *ℚ x (s.nonbasic j)) +ℚ sum_to k (λ j. s.cell i (X + j) *ℚ x (s.nonbasic (X + j))))
 unfolding left
 left_parts X k s x i e =

@@ -9,11 +9,12 @@ use Rattle.rational.proofs.RationalRing.{rational_ring}
 use Rattle.rational.proofs.Ring.{◌times◌is◌, combine, ring, num, ◌:+◌, ◌:*◌, ◌:-◌, :neg, A, B, C}
 use Rattle.rational.proofs.Linear.{linear, minus, at, lit, ◌⟨+⟩◌, ◌⟨≤⟩◌, ◌⟨<⟩◌, ◌⟨=⟩◌}
 use Rattle.rational.proofs.Field.{nonneg-mul}
-use Rattle.rational.proofs.SumLemmas.{sum_to-same, sum_to-zeros, sum_to-nonneg}
+use Rattle.rational.proofs.SumLemmas.{sum_to-same, sum_to-zeros, sum_to-nonneg, sum_to-only}
+use Rattle.rational.proofs.Rules.{times_zero}
 use Rattle.linear_systems.specs.Rows.{unit_at, row, HasDistinctVariables, IsLexicographicRow}
 use Rattle.linear_systems.specs.Reached.{IsReached, IsStart}
 use Rattle.zero_sum_lp.specs.Paths.{IsUnbounded}
-use Rattle.linear_systems.proofs.RowLemmas.{unit_self, unit_other, unit_nonneg, sum_single, times_zero}
+use Rattle.linear_systems.proofs.RowLemmas.{unit_self, unit_other, unit_nonneg}
 use Rattle.zero_sum_lp.proofs.UnitLemmas.{neg_nonneg, sum_unit}
 use Rattle.linear_systems.proofs.LexRowLemmas.{Scan, none, best, scan}
 
@@ -35,7 +36,7 @@ ray t c v = unit_at (t.nonbasic c) v +ℚ sum_to t.rows (λ i. neg_ℚ (t.cell i
 pub ray_basic : (t : Tableau) (c i : ℕ) → HasDistinctVariables t → c < t.width → i < t.rows → ray t c (t.basic i) ≡ neg_ℚ (t.cell i c)
 unfolding ray
 ray_basic t c i p hc hi =
-    ap₂ (λ a b. a +ℚ b) (unit_other (t.nonbasic c) (t.basic i) (p.apart i c hi hc)) (sum_single t.rows _ i hi (λ j hj ne. times_zero (neg_ℚ (t.cell j c)) _ (unit_other (t.basic j) (t.basic i) (λ e. ne (p.basic_once j i hj hi (sym e))))) ∙ ap (λ u. neg_ℚ (t.cell i c) *ℚ u) (unit_self (t.basic i)))
+    ap₂ (λ a b. a +ℚ b) (unit_other (t.nonbasic c) (t.basic i) (p.apart i c hi hc)) (sum_to-only t.rows i _ hi (λ j hj ne. times_zero (neg_ℚ (t.cell j c)) _ (unit_other (t.basic j) (t.basic i) (λ e. ne (p.basic_once j i hj hi (sym e))))) ∙ ap (λ u. neg_ℚ (t.cell i c) *ℚ u) (unit_self (t.basic i)))
     ∙ ring rational_ring (t.cell i c ∷ []) (num 0 :+ :neg A :* num 1) (:neg A) refl
 
 pub ray_nonbasic : (t : Tableau) (c j : ℕ) → HasDistinctVariables t → c < t.width → j < t.width → ray t c (t.nonbasic j) ≡ unit_at c j

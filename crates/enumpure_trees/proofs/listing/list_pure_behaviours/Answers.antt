@@ -1,6 +1,7 @@
 use Rattle.std.proofs.Common.{◌*◌, ◌≡◌, inr, length, map, refl, sym, ap, ap₂, ◌∙◌, subst, arith, rules}
 use Rattle.std.proofs.Math.ListN.{replicate}
 use Rattle.std.specs.List.{count_by}
+use Rattle.lists.proofs.NumberLemmas.{above_quotient}
 use Rattle.game_core.specs.Limits.{most_text}
 use Rattle.game_theory.specs.Profiles.{IsProfile}
 use Rattle.game_theory.specs.Lines.{lines_text}
@@ -13,7 +14,7 @@ use Rattle.enumpure_trees.specs.Orders.{AreOrders}
 use Rattle.enumpure_trees.specs.Ranks.{lines_below}
 use Rattle.enumpure_trees.proofs.FormSizeLemmas.{IsProfile-first}
 use Rattle.enumpure_trees.proofs.SortedOrderLemmas.{AreOrders-sorted}
-use Rattle.enumpure_trees.proofs.TextLemmas.{AreListed-made, length-best_replies, IsTreeEquilibriaText-listed, length-listed, above_limit, below_limit}
+use Rattle.enumpure_trees.proofs.TextLemmas.{AreListed-made, length-best_replies, IsTreeEquilibriaText-listed, length-listed, below_limit}
 use Rattle.enumpure_trees.proofs.listing.list_pure_behaviours.Goals as goal
 
 pub line_length-requires-clause-profile : goal.line_length-requires-clause-profile
@@ -42,7 +43,7 @@ returns-then-count-each c =
     let listed = AreListed-made tree form orders best_replies c.table.result.now (c.trees_are_game_trees.ensures tree c.players.ensures.valid) c.requires.form (c.in_ok-orders.ensures {u = tt}) (c.in_ok-all_best.ensures {u = tt}) c.table.ensures in
     let counted : c.count-count.result ≡ count_by (λ b. b) c.deref-2.result.now = search rules in
     let long = length-listed tree form orders best_replies c.in_ok-each.each listed (c.in_ok-each.ensures {u = tt}).each in
-    let above = above_limit most_text c.in_ok-each.each c.count-count.result (c.in_ok-each.ensures {u = tt}).some c.if-count-each.true in
+    let above = above_quotient most_text c.in_ok-each.each c.count-count.result (c.in_ok-each.ensures {u = tt}).some c.if-count-each.true in
     let same = ap (λ n. n * c.in_ok-each.each) (counted ∙ ap (count_by (λ b. b)) c.deref-2.ensures.value) in
     let text = lines_text (lines_below (game_of_tree tree) form.choices orders (plays_best best_replies) (length best_replies)) in
     inr (text-refused (IsTreeEquilibriaText (game_of_tree tree) form.choices) text _ (IsTreeEquilibriaText-listed tree form orders best_replies _ listed refl) (omega (arith, long, above, same)) c.too_long_text.ensures)

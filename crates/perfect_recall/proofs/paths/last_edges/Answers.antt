@@ -2,9 +2,9 @@ use Rattle.std.proofs.Common.{◌≡◌, ◌+◌, ◌-◌, ap, subst, sym, lengt
 use Rattle.std.proofs.lemmas.List.{length_push}
 use Rattle.game_theory.specs.Trees.{IsWithin}
 use Rattle.game_core.specs.TreeGame.{game_of_tree}
+use Rattle.game_core.proofs.ParentPathLemmas.{parent-on_path}
 use Rattle.perfect_recall.specs.LastEdges.{AreLast, AreLastEdges, IsEdgeBefore}
 use Rattle.perfect_recall.proofs.LastEdgeLemmas.{AreLastEdges-push}
-use Rattle.perfect_recall.proofs.PrefixOrderLemmas.{parent-on_path}
 use Rattle.perfect_recall.proofs.paths.last_edges.Goals as goal
 
 pub go_up-requires-clause-above : goal.go_up-requires-clause-above

@@ -1,6 +1,6 @@
 use Rattle.std.proofs.Common.{subst, sym}
 use Rattle.std.specs.Prelude.{Contains}
-use Rattle.sequence_data.proofs.PlaceLemmas.{number-missed}
+use Rattle.lists.proofs.AscendingNumberLemmas.{number-missed}
 use Rattle.sequence_data.proofs.cells.cell_number.Goals as goal
 
 pub returns-in-Err-clause-within : goal.returns-in-Err-clause-within

@@ -1,4 +1,4 @@
-use Rattle.subgames.proofs.CutListLemmas.{number-missed}
+use Rattle.lists.proofs.AscendingNumberLemmas.{number-missed}
 use Rattle.subgames.proofs.cut_parts.index_among.Goals as goal
 
 pub returns-in-Err : goal.returns-in-Err

@@ -1,9 +1,9 @@
 use Rattle.std.proofs.Common.{◌<◌, ◌≡◌, ◌∙◌, ◌∷◌, ◌++◌, [], length, ap₂, sym, arith}
 use Rattle.std.proofs.lemmas.List.{length-map}
 use Rattle.std.proofs.lemmas.List.FromFn.{map-range_with_len_more}
+use Rattle.lists.proofs.ElementLemmas.{part-read}
 use Rattle.game_theory.specs.OwnSets.{places_with}
 use Rattle.subgames.specs.CutParts.{cut_information_set}
-use Rattle.subgames.proofs.MemberListLemmas.{part-read}
 use Rattle.subgames.proofs.cut_parts.made_sets.Goals as goal
 
 pub loop-number-preserved : goal.loop-number-preserved

@@ -1,6 +1,6 @@
 use Rattle.std.proofs.Common.{Err}
 use Rattle.answers.specs.Answers.{refused_by}
-use Rattle.answers.proofs.AnswerLemmas.{gives_refused}
+use Rattle.answers.proofs.AnswerLemmas.{gives_refused, gives_stop}
 use Rattle.sequence_forms.specs.PlanBehaviour.{behaviour_of}
 use Rattle.game_core.specs.TreeGame.{game_of_tree}
 use Rattle.behaviour_profile.specs.Plans.{plan_behaviour}
@@ -8,7 +8,6 @@ use Rattle.behaviour_profile.specs.declared.plans.BehaviourStop.TheVariants as b
 use Rattle.zero_sum_lp.specs.PlanPairs.{PlanPair}
 use Rattle.refusals.specs.Told.{behaviour_refusal}
 use Rattle.refusals.specs.declared.refusal.Refusal.TheVariants as refusal
-use Rattle.two_player_tools.proofs.KnownCutLemmas.{gives-stop}
 use Rattle.two_player_tools.proofs.PlanEntryLemmas.{tree_entries_are, weights_of}
 use Rattle.two_player_tools.proofs.entries.plan_behaviour.Goals as goal
 
@@ -16,7 +15,7 @@ pub returns-in_err-from_plans-clause-answer : goal.returns-in_err-from_plans-cla
 returns-in_err-from_plans-clause-answer c =
     let behaviour = plan_behaviour c.args.tree.now c.args.one.now c.args.two.now in
     let stop = c.in_err-from_plans.field-0.0 in
-    gives-stop refusal.Memory (refused_by behaviour_refusal behaviour) (behaviour_refusal stop) c.from_residual.result
+    gives_stop refusal.Memory (refused_by behaviour_refusal behaviour) (behaviour_refusal stop) c.from_residual.result
     (gives_refused behaviour_stop.Memory behaviour_refusal behaviour (Err stop) c.in_err-from_plans.ensures) c.from_residual.ensures.1
 
 pub returns-clause-answer : goal.returns-clause-answer

@@ -1,11 +1,12 @@
 use Rattle.std.proofs.Common.{◌≡◌, ◌∙◌, ◌⊎◌, Ok, map, length, ap, sym, subst, subst₂, arith}
 use Rattle.std.proofs.lemmas.List.{length-map, with_items_is}
 use Rattle.std.specs.Vec.{with_items}
+use Rattle.answers.proofs.AnswerLemmas.{if_stop}
 use Rattle.refusals.specs.declared.refusal.Refusal.TheVariants as refusal
 use Rattle.two_player_tools.specs.KnownCuts.{AreKeptTo, lists_of, worth_in}
 use Rattle.two_player_tools.specs.Perfect.{IsStoppedAt, cut_in}
 use Rattle.two_player_tools.specs.declared.perfect.Known.{Known}
-use Rattle.two_player_tools.proofs.KnownCutLemmas.{IsRowKept, cut-stop, if-stop, sets-within, solved-next}
+use Rattle.two_player_tools.proofs.KnownCutLemmas.{IsRowKept, cut-stop, sets-within, solved-next}
 use Rattle.two_player_tools.proofs.perfect.solve_and_keep.Goals as goal
 
 pub returns-in_err-solved-clause-stops : goal.returns-in_err-solved-clause-stops
@@ -15,7 +16,7 @@ returns-in_err-solved-clause-stops c =
     let made = c.args.cut.now in
     let worth = worth_in t c.args.known.now in
     let stop = c.in_err-solved.field-0.0 in
-    if-stop (λ r. (r ≡ refusal.Memory) ⊎ IsStoppedAt c.args.method t worth root r) stop c.from_residual.result
+    if_stop (λ r. (r ≡ refusal.Memory) ⊎ IsStoppedAt c.args.method t worth root r) stop c.from_residual.result
     (cut-stop c.args.method t root worth made stop c.requires.cut c.in_err-solved.ensures.answer)
     c.from_residual.ensures.1
 

@@ -1,9 +1,10 @@
 use Rattle.std.proofs.Common.{◌∙◌, inl, inr, Ok, Err, ap, sym, subst}
 use Rattle.answers.specs.Answers.{Gives, refused_by}
+use Rattle.answers.proofs.AnswerLemmas.{gives_stop_as}
 use Rattle.behaviour_profile.specs.EntryStarts.{AreBehaviourEntries}
 use Rattle.refusals.specs.declared.refusal.Refusal.TheVariants as refusal
 use Rattle.two_player_tools.specs.Perfect.{cut_in, entries_by, in_subgame, payoffs_of, worth_refusal}
-use Rattle.two_player_tools.proofs.KnownCutLemmas.{cut-done, cut-unpaid, cut-unsolved, gives-stop-as}
+use Rattle.two_player_tools.proofs.KnownCutLemmas.{cut-done, cut-unpaid, cut-unsolved}
 use Rattle.two_player_tools.proofs.perfect.solve_cut.Goals.{then-root-eq0, else-root-eq0+in_ok-payoffs}
 use Rattle.two_player_tools.proofs.perfect.solve_cut.Goals as goal
 
@@ -22,7 +23,7 @@ returns-in_err-payoffs-clause-answer c =
     let cut = c.args.cut.now in
     let entries = c.in-Ok.behaviour in
     let stop = c.in_err-payoffs.field-0.0 in
-    gives-stop-as refusal.Memory (cut_in c.args.method c.args.root cut) stop c.from_residual.result (λ solved. solved.behaviour)
+    gives_stop_as refusal.Memory (cut_in c.args.method c.args.root cut) stop c.from_residual.result (λ solved. solved.behaviour)
     (cut-unpaid c.args.method c.args.root cut entries stop (subst (λ tree. entries_by c.args.method tree (Ok entries)) c.tree.ensures c.in-Ok.ensures.answer) c.if-root-eq0.false
     (subst (λ tree. Gives refusal.Memory (refused_by (worth_refusal c.args.root) (payoffs_of tree entries)) (Err stop)) c.tree-else-root-eq0.ensures c.in_err-payoffs.ensures.stops)) c.from_residual.ensures.1
 

@@ -1,5 +1,5 @@
+use Rattle.rational.proofs.PartLemmas.{gcd-one}
 use Rattle.frac128.proofs.PartLemmas.{den_size}
-use Rattle.frac128.proofs.QuotientLemmas.{gcd-one}
 use Rattle.frac128.proofs.SumSizeLemmas.{sum_answer, sum_refused}
 use Rattle.frac128.proofs.LikeSumLemmas.{like_summands, like_tops, like_refused}
 use Rattle.frac128.proofs.frac.Frac.like_sum.Goals as goal

@@ -1,5 +1,6 @@
 use Rattle.std.proofs.Common.{ℕ, ◌<◌, ◌≡◌, ◌∙◌, Option, List, [], get_or, length, map, replicate, sym, ap, subst, subst₂, arith}
 use Rattle.std.proofs.lemmas.List.{length-map}
+use Rattle.lists.proofs.ElementLemmas.{part-read}
 use Rattle.game_core.specs.Tree.{IsGameTree}
 use Rattle.game_core.specs.TreeGame.{game_of_tree}
 use Rattle.subgames.specs.CutParts.{AreSetNames, cut_set}
@@ -9,7 +10,6 @@ use Rattle.subgames.specs.MadeCuts.{given_at}
 use Rattle.subgames.proofs.CutListLemmas.{found-nodes}
 use Rattle.subgames.proofs.CutWalkLemmas.{AreCutNodes, nodes-within}
 use Rattle.subgames.proofs.CutValidLemmas.{cut_tree, names_within, sets_within}
-use Rattle.subgames.proofs.MemberListLemmas.{part-read}
 use Rattle.subgames.proofs.cuts.Subgames.cut_at.Goals as goal
 use Rattle.subgames.proofs.cuts.Subgames.cut_at.Goals.{After-as_slice-cut, After-as_slice-named}
 
