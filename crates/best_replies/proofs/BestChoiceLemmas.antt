@@ -18,7 +18,7 @@ use Rattle.game_theory.specs.Behaviour.{Behaviour, branch_probability, value, pa
 use Rattle.game_theory.specs.Recall.{own_history, HasPerfectRecall}
 use Rattle.game_theory.proofs.ChildLemmas.{where_true}
 use Rattle.game_theory.proofs.OwnSetLemmas.{is_index-decides}
-use Rattle.reduced_strategies.proofs.HistoryLemmas.{along_paths}
+use Rattle.game_theory.proofs.PathLemmas.{along_paths}
 use Rattle.best_replies.specs.Reaching.{reach, weight}
 use Rattle.best_replies.specs.Replies.{reply_value, is_member, follows, action_value, AreBestChoices, OthersBehaveAlike}
 use Rattle.best_replies.specs.Laws.{BestChoicesPayMost, NoBehaviourPaysMore}

@@ -5,7 +5,7 @@ use Rattle.std.proofs.lemmas.Bool.{cases_lt, cases_eq}
 use Rattle.game_theory.specs.Trees.{Tree, IsTree, IsAbove, IsWithin}
 use Rattle.game_theory.specs.Behaviour.{is_own}
 use Rattle.game_theory.specs.Recall.{own_edge, own_history, HasPerfectRecall}
-use Rattle.reduced_strategies.proofs.HistoryLemmas.{along_paths, own_history-step}
+use Rattle.game_theory.proofs.PathLemmas.{along_paths, own_history-step}
 use Rattle.game_theory.specs.FirstNodes.{AreNumberedByFirstNodes}
 use Rattle.best_replies.specs.Laws.{SetsAscendOnPaths}
 use Rattle.best_replies.proofs.WeightLemmas.{if_own}

@@ -11,7 +11,7 @@ use Rattle.game_theory.specs.Trees.{Tree, IsTree}
 use Rattle.game_theory.specs.Behaviour.{Behaviour, of_owner, action_probability, at_set, branch_probability, is_own, reply}
 use Rattle.game_theory.specs.Recall.{own_edge, own_history}
 use Rattle.game_theory.proofs.OwnSetLemmas.{is_own-decides}
-use Rattle.reduced_strategies.proofs.HistoryLemmas.{along_paths, own_history-step}
+use Rattle.game_theory.proofs.PathLemmas.{along_paths, own_history-step}
 use Rattle.best_replies.specs.Reaching.{reach, own_as_one, weight}
 use Rattle.best_replies.specs.Replies.{OthersBehaveAlike}
 use Rattle.best_replies.specs.Laws.{WeightsAlongPaths}

@@ -12,8 +12,8 @@ use game_core::{Game, Tree};
 use outside::Inputs;
 use reduced_form::reduce;
 use refusals::Refusal;
+use stable_choices::list_stable_choices;
 use std::alloc::Global;
-use subgames::list_stable_choices;
 
 // The text of a tree's pure equilibria as behaviour, or of the choices that pass.
 fn tree_equilibria(

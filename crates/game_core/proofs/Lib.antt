@@ -6,6 +6,7 @@ mod NumberLemmas
 mod PlayerSetLemmas
 pub mod ParentPathLemmas
 pub mod PrefixOrderLemmas
+pub mod SetReadLemmas
 pub mod StrideLemmas
 pub mod TableCountLemmas
 pub mod TreeLaws

@@ -7,7 +7,8 @@
 //! `game_of_tree`), `Tree` what makes one, `Limits` when a count is within its limit, `Spacing` what
 //! tokens keep, `TreeCodes` how the parts of trees are coded where models keep them.
 //! Private words: `specs::OwnSets`, how a tree keeps its own sets.
-//! Lemmas for callers: `proofs::TableCountLemmas` on counts of strategies, `StrideLemmas`.
+//! Lemmas for callers: `proofs::TableCountLemmas` on counts of strategies, `StrideLemmas`,
+//! `ParentPathLemmas` on subtrees, `SetReadLemmas` on sets that are read.
 //! A change here touches: all contracts that name a game, from the readers to `run`.
 #![tactic(auto)]
 

@@ -1,12 +1,12 @@
 -- The numbers with one index, and the place of each of them.
 use Rattle.std.proofs.Common.{ℕ, zero, suc, ◌+◌, ◌<◌, ◌≤◌, ◌≡◌, ◌∙◌, inl, inr, Bool, true, false, cond, Decides, Option, Some, None, List, [], ◌∷◌, ◌++◌, length, map, get_or, slice_get, All, refl, sym, ap, ap₂, subst, add-one, arith}
-use Rattle.std.specs.Prelude.{IfSome, filter}
+use Rattle.std.specs.Prelude.{◌↔◌, IfSome, filter}
 use Rattle.std.specs.List.{range_with_len}
 use Rattle.std.proofs.lemmas.Bool.{cases_eq, cases_lt, eqb-true, false_from_ne_true}
 use Rattle.std.proofs.lemmas.List.{append-nil, length_push, length-map, map_push, get_or_append_left, get_or_push}
 use Rattle.std.proofs.lemmas.List.Elements.{All-map, filter-append}
-use Rattle.std.proofs.lemmas.Option.{none-some, slice_get_within}
-use Rattle.lists.proofs.ElementLemmas.{slice_get-end, slice_get-longer, slice_get-push_cases, range-last, filter-same, filter-none}
+use Rattle.std.proofs.lemmas.Option.{none-some, same_Some, slice_get_within}
+use Rattle.lists.proofs.ElementLemmas.{element, slice_get-end, slice_get-longer, slice_get-push_cases, range-last, filter-same, filter-none}
 use Rattle.game_theory.specs.Behaviour.{is_index}
 use Rattle.game_theory.specs.OwnSets.{numbers_with, places_with}
 use Rattle.game_theory.proofs.OwnSetLemmas.{is_index-decides}
@@ -79,6 +79,31 @@ module _ (index : ℕ → Option ℕ) (i : ℕ) where
           | inr apart ↦ absurd (omega (arith, first.2, second.2, slice_get_within (numbers_with index i k) (length (numbers_with index i m)) m (numbers_with-at m k (omega arith) second.1)))
         ]
       ]
+
+  -- there is one number exactly where each number with the index is that number
+  pub numbers_with-one : (n k : ℕ) → k < n → index k ≡ Some i → (length (numbers_with index i n) ≡ 1) ↔ ((c : ℕ) → c < n → index c ≡ Some i → c ≡ k)
+  numbers_with-one n k below here = (same, one)
+    where
+      first : length (numbers_with index i n) ≡ 1 → (c : ℕ) → c < n → index c ≡ Some i → slice_get (numbers_with index i n) 0 ≡ Some c
+      first e c l is =
+          let at = numbers_with-at c n l is in
+          let start = slice_get_within (numbers_with index i n) (length (numbers_with index i c)) c at in
+          let zero_is : length (numbers_with index i c) ≡ 0 = omega (arith, start, e) in
+          subst (λ j. slice_get (numbers_with index i n) j ≡ Some c) zero_is at
+
+      same : length (numbers_with index i n) ≡ 1 → (c : ℕ) → c < n → index c ≡ Some i → c ≡ k
+      same e c l is = same_Some c k (sym (first e c l is) ∙ first e k below here)
+
+      one : ((c : ℕ) → c < n → index c ≡ Some i → c ≡ k) → length (numbers_with index i n) ≡ 1
+      one all =
+          let at = numbers_with-at k n below here in
+          let start = slice_get_within (numbers_with index i n) (length (numbers_with index i k)) k at in
+          elim (cases_lt 1 (length (numbers_with index i n))) [
+            | inl more ↦ let x = element (numbers_with index i n) 0 (omega arith) in let y = element (numbers_with index i n) 1 more in
+                let of_x = numbers_with-tell n 0 x.0 x.1 in let of_y = numbers_with-tell n 1 y.0 y.1 in
+                absurd (omega (arith, numbers_with-ascend n 0 1 x.0 y.0 (omega arith) x.1 y.1, all x.0 of_x.0 of_x.1, all y.0 of_y.0 of_y.1))
+            | inr few ↦ omega (arith, few, start)
+          ]
 
 -- ---- places of a list
 module _ {A : Type 0} (index : A → Option ℕ) where

@@ -8,6 +8,7 @@ pub mod LineOrderLemmas
 pub mod LineTextLemmas
 pub mod NamedChildLemmas
 pub mod OwnSetLemmas
+pub mod PathLemmas
 pub mod PayoffLemmas
 pub mod PlayerSetLemmas
 pub mod PokerExamples
@@ -20,6 +21,7 @@ pub mod RankLemmas
 pub mod RecallExamples
 pub mod ReplyLemmas
 pub mod SubtreeLemmas
+pub mod SubtreeOrderLemmas
 pub mod SureStrategyLemmas
 pub mod TreeReplyLemmas
 pub mod TreeTestLemmas

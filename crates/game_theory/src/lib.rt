@@ -6,7 +6,7 @@
 //! form: `Trees`, then `Behaviour`, `TreeEquilibrium`, `Recall`, `OwnSets`.
 //! Lemmas for callers: `proofs::ProfileNumberLemmas`, `SureStrategyLemmas`, `ReplyLemmas`,
 //! `PureProfileLemmas`, `LineOrderLemmas` and `ProfileLineLemmas`; of trees `ChildLemmas`,
-//! `SubtreeLemmas`, `ValueLemmas` and `OwnSetLemmas`.
+//! `PathLemmas`, `SubtreeOrderLemmas`, `SubtreeLemmas`, `ValueLemmas` and `OwnSetLemmas`.
 //! A change here touches: what an equilibrium is and how its line is written, and so the contract
 //! of `run`, what each text of a tool is, and the proofs of all crates that name games.
 #![tactic(auto)]

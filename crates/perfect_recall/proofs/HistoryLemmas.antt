@@ -8,7 +8,7 @@ use Rattle.game_theory.specs.FirstNodes.{AreNumberedByFirstNodes}
 use Rattle.game_theory.specs.Trees.{Tree, IsTree}
 use Rattle.game_theory.specs.Behaviour.{is_own}
 use Rattle.game_theory.specs.Recall.{own_history, HasPerfectRecall, HaveOneHistory}
-use Rattle.reduced_strategies.proofs.HistoryLemmas.{along_paths}
+use Rattle.game_theory.proofs.PathLemmas.{along_paths}
 use Rattle.sequence_forms.specs.Sequences.{last_edge}
 use Rattle.sequence_forms.proofs.SequenceLemmas.{history-own, history-other, last_edge-append, history_before-is}
 use Rattle.perfect_recall.specs.LastEdges.{AreLastEdges}

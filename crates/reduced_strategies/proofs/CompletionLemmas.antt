@@ -14,7 +14,7 @@ use Rattle.game_theory.proofs.ChildLemmas.{over_children-same}
 use Rattle.reduced_strategies.specs.Choices.{choice_at, Agrees}
 use Rattle.reduced_strategies.specs.StrategicForm.{AreStrategies, list_of, given_at, completed, IsCompletion}
 use Rattle.reduced_strategies.specs.Laws.{CompletionsPayTheCell}
-use Rattle.reduced_strategies.proofs.HistoryLemmas.{agrees_at_child}
+use Rattle.reduced_strategies.proofs.AgreementLemmas.{agrees_at_child}
 use Rattle.reduced_strategies.proofs.StrategyProfileLemmas.{given_at-own, list_of-reduced, first_actions-complete}
 
 -- products with equal first factors, which are 0, or with equal second ones too

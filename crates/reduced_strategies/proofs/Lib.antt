@@ -1,7 +1,7 @@
+pub mod AgreementLemmas
 pub mod ChoiceListLemmas
 pub mod CompletionLemmas
 pub mod ExistenceLemmas
-pub mod HistoryLemmas
 pub mod NodeLemmas
 pub mod OnePlayerExamples
 pub mod ReachedSetLemmas

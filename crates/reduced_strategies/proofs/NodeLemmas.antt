@@ -8,7 +8,7 @@ use Rattle.game_theory.specs.Recall.{own_history}
 use Rattle.reduced_strategies.specs.Choices.{Agrees, choice_at, IsReduced}
 use Rattle.reduced_strategies.specs.Laws.{NodesDetermineStrategies}
 use Rattle.reduced_strategies.proofs.SetLemmas.{choice_at-among, choice_at-determines}
-use Rattle.reduced_strategies.proofs.HistoryLemmas.{agrees_at_child}
+use Rattle.reduced_strategies.proofs.AgreementLemmas.{agrees_at_child}
 
 -- the action at a set leads from one of its nodes to this node, whose own history agrees with the choices
 record Leads (t : Tree) (i : ℕ) (choice : ℕ → ℕ) (s : ℕ) : Type 0 where

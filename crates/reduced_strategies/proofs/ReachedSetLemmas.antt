@@ -7,7 +7,8 @@ use Rattle.game_theory.specs.Trees.{Tree, IsTree}
 use Rattle.game_theory.specs.Behaviour.{is_index}
 use Rattle.game_theory.specs.Recall.{own_history}
 use Rattle.reduced_strategies.specs.Choices.{Agrees, IsReachedUnder}
-use Rattle.reduced_strategies.proofs.HistoryLemmas.{along_paths, agrees_at_child}
+use Rattle.game_theory.proofs.PathLemmas.{along_paths}
+use Rattle.reduced_strategies.proofs.AgreementLemmas.{agrees_at_child}
 
 -- ---- the test
 -- whether a history agrees with choices

@@ -4,7 +4,7 @@
 //! `choices_have_reduced` and `one_list_of_strategies`; none of these laws asks for perfect recall.
 //! Definitions: `specs::Choices` says what a reduced strategy is and in which order they stand,
 //! `StrategicForm` what their profiles pay.
-//! Lemmas for callers: `proofs::HistoryLemmas` on own histories, `SetLemmas` and
+//! Lemmas for callers: `proofs::AgreementLemmas` on own histories, `SetLemmas` and
 //! `StrategyProfileLemmas` on what choice lists give the sets, `ReducedStrategyLemmas` and
 //! `TreeEquilibriaLemmas` on completions.
 //! A change here touches: `strategy_lists`, `pure_payoffs`, `reduced_form` and what the tools print

@@ -15,8 +15,8 @@ use nfg_reader::NfgStop;
 use perfect_recall::RecallStop;
 use reduced_form::{KeptStop, ReduceStop};
 use sequence_form::SeqStop;
+use stable_choices::ChoiceStop;
 use std::alloc::AllocError;
-use subgames::ChoiceStop;
 use zero_sum_lp::{LpStop, PlanStop};
 
 impl From<Memory> for Refusal {

@@ -16,7 +16,7 @@ use Rattle.game_theory.proofs.SureStrategyLemmas.{sure-not_negative, sum_to-sure
 use Rattle.game_theory.specs.Trees.{Tree, IsTree}
 use Rattle.game_theory.specs.Behaviour.{Behaviour, IsValid, IsChoice, is_own, reply}
 use Rattle.game_theory.specs.Recall.{own_history, HasPerfectRecall}
-use Rattle.reduced_strategies.proofs.HistoryLemmas.{along_paths}
+use Rattle.game_theory.proofs.PathLemmas.{along_paths}
 use Rattle.sequence_forms.specs.Sides.{first, IsRealisationPlan}
 use Rattle.sequence_forms.specs.Sequences.{last_edge, place_in, action_count, sequence, last_sequence, history_before, sequence_before, side_of}
 use Rattle.sequence_forms.specs.PlanBehaviour.{agreement, edges_at, edges_of, chosen_plan}

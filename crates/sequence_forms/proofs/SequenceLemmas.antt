@@ -8,7 +8,7 @@ use Rattle.game_theory.proofs.OwnSetLemmas.{is_index-decides, is_own-decides, Is
 use Rattle.game_theory.specs.Trees.{Tree, IsTree}
 use Rattle.game_theory.specs.Behaviour.{is_index, is_own}
 use Rattle.game_theory.specs.Recall.{own_edge, own_history, HasPerfectRecall}
-use Rattle.reduced_strategies.proofs.HistoryLemmas.{along_paths, own_history-step}
+use Rattle.game_theory.proofs.PathLemmas.{along_paths, own_history-step}
 use Rattle.sequence_forms.specs.Sides.{sequences, IsSide}
 use Rattle.sequence_forms.specs.Sequences.{last_from, last_edge, place_in, action_count, sequence, last_sequence, history_before_to, history_before, sequence_before, side_of}
 use Rattle.sequence_forms.proofs.SideLemmas.{first_pos, sequence_below}

@@ -9,7 +9,7 @@ use Rattle.game_theory.specs.FirstNodes.{AreNumberedByFirstNodes}
 use Rattle.game_theory.specs.Trees.{Tree, IsTree}
 use Rattle.game_theory.specs.Behaviour.{is_own}
 use Rattle.game_theory.specs.Recall.{HasPerfectRecall}
-use Rattle.reduced_strategies.proofs.HistoryLemmas.{along_paths}
+use Rattle.game_theory.proofs.PathLemmas.{along_paths}
 use Rattle.sequence_forms.specs.Sides.{first_after, first}
 use Rattle.sequence_forms.specs.Sequences.{last_edge, place_in, action_count, sequence, last_sequence, sequence_before, side_of}
 use Rattle.sequence_forms.specs.TreeLaws.{TreesHaveOrderedSides}

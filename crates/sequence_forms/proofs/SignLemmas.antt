@@ -13,7 +13,7 @@ use Rattle.rational.proofs.InverseLemmas.{zero_le_one}
 use Rattle.game_theory.specs.Profiles.{number_of}
 use Rattle.game_theory.specs.Trees.{Tree, IsTree}
 use Rattle.game_theory.specs.Behaviour.{branch_probability}
-use Rattle.reduced_strategies.proofs.HistoryLemmas.{along_paths}
+use Rattle.game_theory.proofs.PathLemmas.{along_paths}
 use Rattle.sequence_forms.specs.Sides.{first_after}
 use Rattle.sequence_forms.specs.Sequences.{action_count}
 use Rattle.sequence_forms.specs.Forms.{at_leaf, row, column, leaves_at, chance_of_path, payoff_of_path, form_of_table}

@@ -9,7 +9,7 @@ use Rattle.game_theory.specs.Recall.{own_edge, own_history}
 use Rattle.game_core.specs.declared.tree.Node.{Node}
 use Rattle.game_core.specs.Tree.{GameTree, IsGameTree as is_game, kind_at, kind_of_owner}
 use Rattle.game_core.specs.TreeGame.{game_of_tree}
-use Rattle.reduced_strategies.proofs.HistoryLemmas.{own_history-step}
+use Rattle.game_theory.proofs.PathLemmas.{own_history-step}
 use Rattle.strategy_lists.specs.Made.{mover_of, owner_of, mover, IsLastMove}
 use Rattle.game_theory.specs.OwnSets.{Chooses}
 

@@ -11,7 +11,7 @@ use Rattle.game_theory.specs.Trees.{Tree}
 use Rattle.game_theory.specs.Recall.{own_history}
 use Rattle.reduced_strategies.specs.Choices.{choice_at, Agrees, IsReachedUnder as is_set_reached, IsReduced, AreReducedStrategies}
 use Rattle.reduced_strategies.proofs.SetLemmas.{choice_at-among, choice_at-first, choice_at-later}
-use Rattle.reduced_strategies.proofs.HistoryLemmas.{Agrees-append}
+use Rattle.reduced_strategies.proofs.AgreementLemmas.{Agrees-append}
 use Rattle.strategy_lists.specs.declared.decision.Decision.{Decision}
 use Rattle.strategy_lists.specs.declared.decision.Edge.{Edge}
 use Rattle.strategy_lists.specs.Reduced.{ComesFrom, IsLedTo, IsReachedWithin, IsPlaceReached, IsReducedBy, AreReducedBy}

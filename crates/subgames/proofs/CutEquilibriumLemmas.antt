@@ -11,7 +11,7 @@ use Rattle.game_theory.proofs.TreeReplyLemmas.{reply-not_negative}
 use Rattle.subgames.specs.CutGames.{cut_behaviour}
 use Rattle.subgames.specs.CutLaws.{CutEquilibriaArePerfect, IsCutEquilibrium}
 use Rattle.subgames.specs.Roots.{IsSubgameRoot}
-use Rattle.subgames.proofs.SubtreeOrderLemmas.{within-after}
+use Rattle.game_theory.proofs.SubtreeOrderLemmas.{within-after}
 use Rattle.subgames.proofs.CutNodeLemmas.{cut-first}
 use Rattle.subgames.proofs.CutValueLemmas.{cuts_keep_values, values-related}
 

@@ -7,7 +7,7 @@ use Rattle.rational.specs.Rational.{ℚ}
 use Rattle.game_theory.specs.Behaviour.{is_index, is_own}
 use Rattle.game_theory.specs.Recall.{own_edge, own_history}
 use Rattle.game_theory.specs.Trees.{Tree, IsTree}
-use Rattle.reduced_strategies.proofs.HistoryLemmas.{along_paths, own_history-step}
+use Rattle.game_theory.proofs.PathLemmas.{along_paths, own_history-step}
 use Rattle.subgames.specs.CutGames.{IsCutGame}
 use Rattle.subgames.specs.CutLaws.{CutsKeepRecall}
 use Rattle.subgames.proofs.CutNodeLemmas.{cut-child, cut-first, cut-node}

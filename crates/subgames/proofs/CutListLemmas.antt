@@ -7,6 +7,7 @@ use Rattle.std.proofs.lemmas.Bool.{cases_eq, cases_lt}
 use Rattle.std.proofs.lemmas.List.{get_or-replicate, get_or-set_other, get_or-set_same, get_or_append_left, get_or_push, length-replicate, length-set, length_push, take_more}
 use Rattle.std.proofs.lemmas.List.Elements.{Contains-get_or}
 use Rattle.std.proofs.lemmas.List.Kept.{AllPairs-from_increasing}
+use Rattle.lists.proofs.AscendingNumberLemmas.{AreListedBelow, AreListedBelow-push, AreListedBelow-skip}
 use Rattle.game_theory.specs.Trees.{Tree, IsTree}
 use Rattle.game_core.specs.Tree.{GameTree}
 use Rattle.game_core.specs.TreeGame.{game_of_tree}
@@ -14,10 +15,10 @@ use Rattle.subgames.specs.CutGames.{IsGivenEnd, IsInCut}
 use Rattle.subgames.specs.CutParts.{AreHomesBefore, AreIndicesIn, GoesOnIn, IsIndexOf, with_node}
 use Rattle.subgames.specs.FoundSubgames.{AreSubgamesOf, FoundSubgames, ListCutsBefore}
 use Rattle.subgames.specs.Roots.{IsSubgameRoot}
-use Rattle.subgames.proofs.CutMemberLemmas.{above-ordered, inner-once, inner-root}
+use Rattle.game_theory.proofs.SubtreeOrderLemmas.{above-ordered}
+use Rattle.subgames.proofs.CutMemberLemmas.{inner-once, inner-root}
 use Rattle.subgames.proofs.CutSetLemmas.{indices-push}
 use Rattle.subgames.proofs.CutWalkLemmas.{AreCutNodes, cut-after, cut-down, cut-up}
-use Rattle.subgames.proofs.RootLemmas.{AreListedBelow, AreListedBelow-push, AreListedBelow-skip}
 
 -- ---- where a node goes on
 -- where no subgame begins, the node is not the first

@@ -1,9 +1,10 @@
 -- Each player's set that a node has stands in one cut.
-use Rattle.std.proofs.Common.{ℕ, zero, suc, ◌<◌, ◌≡◌, ◌⊎◌, inl, inr, refl, sym, ◌∙◌, subst, arith}
+use Rattle.std.proofs.Common.{ℕ, ◌<◌, ◌≡◌, inl, inr, refl, sym, ◌∙◌, subst, arith}
 use Rattle.std.proofs.lemmas.Bool.{cases_eq}
 use Rattle.game_theory.specs.OwnSets.{Chooses}
-use Rattle.game_theory.specs.Trees.{Tree, IsAbove, IsTree, IsWithin}
-use Rattle.reduced_strategies.proofs.HistoryLemmas.{along_paths}
+use Rattle.game_theory.specs.Trees.{Tree, IsTree, IsWithin}
+use Rattle.game_theory.proofs.PathLemmas.{along_paths}
+use Rattle.game_theory.proofs.SubtreeOrderLemmas.{above-ordered, within-root}
 use Rattle.subgames.specs.CutGames.{IsGivenEnd, IsInCut}
 use Rattle.subgames.specs.CutLaws.{SetsStandInOneCut}
 use Rattle.subgames.specs.Roots.{IsSubgameRoot}
@@ -29,20 +30,10 @@ module _ (t : Tree) (w : IsTree t) where
       none n inside root (cut-down t w n k below (omega (arith, before, after)) inner.0 inner.1, λ end. none k below end.0 (inner-root k below))))
 
 -- ---- in no other
--- of two nodes above one node one is above the other
-pub above-ordered : (t : Tree) (a b n m k : ℕ) → IsAbove t a n k → IsAbove t b m k → IsWithin t n m ⊎ IsWithin t m n
-above-ordered t zero b n m k same h = inr (subst (IsWithin t m) (sym same) (b, h))
-above-ordered t (suc a) zero n m k h same = inl (subst (IsWithin t n) (sym same) (suc a, h))
-above-ordered t (suc a) (suc b) n m k h g = above-ordered t a b n m (t.parent k) h.1 g.1
-
 module _ (t : Tree) (w : IsTree t) where
-  -- the subtree of the root has all nodes
-  pub within-root : (k : ℕ) → k < t.size → IsWithin t 0 k
-  within-root = along_paths t (IsWithin t 0) w (0, refl) (λ k later below up. (suc up.0, (later, up.1)))
-
   -- where a subgame begins, the players' sets are whole
   pub root-whole : (n c d i s : ℕ) → IsSubgameRoot t n → c < t.size → d < t.size → Chooses t c i s → Chooses t d i s → IsWithin t n c → IsWithin t n d
-  root-whole n c d i s (inl first) inside_c inside_d at_c at_d h = subst (λ n. IsWithin t n d) (sym first) (within-root d inside_d)
+  root-whole n c d i s (inl first) inside_c inside_d at_c at_d h = subst (λ n. IsWithin t n d) (sym first) (within-root t w d inside_d)
   root-whole n c d i s (inr root) inside_c inside_d at_c at_d h = root.1 c d i s inside_c inside_d at_c at_d h
 
 -- above a node of a cut that is no given end no other subgame begins below the cut's root

@@ -7,7 +7,7 @@ use Rattle.std.proofs.lemmas.List.Kept.{AllPairs-from_increasing}
 use Rattle.rational.specs.Rational.{ℚ}
 use Rattle.game_theory.specs.Trees.{Tree, IsTree, IsChild, IsWithin}
 use Rattle.subgames.specs.CutGames.{IsCutGame, IsInCut}
-use Rattle.subgames.proofs.SubtreeOrderLemmas.{within-after}
+use Rattle.game_theory.proofs.SubtreeOrderLemmas.{within-after}
 
 module _ (t : Tree) (n : ℕ) (worth : ℕ → ℕ → ℚ) (nodes sets : List ℕ) (c : Tree) (w : IsTree t) (v : IsTree c) (g : IsCutGame t n worth nodes sets c) where
   -- a number's node is in the cut

@@ -10,7 +10,7 @@ use Rattle.subgames.specs.CutGames.{IsGivenEnd, IsInCut}
 use Rattle.subgames.specs.CutParts.{AreIndicesIn, IsIndexOf, is_given_end}
 use Rattle.subgames.specs.FoundSubgames.{AreRootMarks}
 use Rattle.subgames.specs.Roots.{IsSubgameRoot}
-use Rattle.subgames.proofs.SubtreeOrderLemmas.{within-after, within-parent}
+use Rattle.game_theory.proofs.SubtreeOrderLemmas.{within-after, within-parent}
 
 -- ---- the nodes of a cut
 -- the nodes of the cut at node n, and for each node of the tree its index among them

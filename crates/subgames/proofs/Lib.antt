@@ -1,6 +1,3 @@
-pub mod BestReplyLemmas
-pub mod ChoiceNumberLemmas
-pub mod ColumnLemmas
 pub mod CutEquilibriumLemmas
 pub mod CutGameLemmas
 pub mod CutHangLemmas
@@ -19,18 +16,6 @@ pub mod CutValidLemmas
 pub mod CutValueLemmas
 pub mod CutWalkLemmas
 pub mod CutWorthLemmas
-pub mod JoinedChoiceLemmas
-pub mod KeptChoiceLemmas
 pub mod MemberListLemmas
-pub mod OneTextLaws
 pub mod RootLemmas
-pub mod SetReadLemmas
 pub mod SpanLemmas
-pub mod StabilityLemmas
-pub mod StableAnswerLemmas
-pub mod StableLineLemmas
-pub mod SubtreeOrderLemmas
-pub mod ValueCountLemmas
-pub mod ValueIndexLemmas
-pub mod ValueListLemmas
-pub mod WholeChoiceLemmas

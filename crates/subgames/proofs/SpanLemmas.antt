@@ -14,7 +14,8 @@ use Rattle.game_core.specs.TreeGame.{game_of_tree}
 use Rattle.subgames.specs.Roots.{HasWholeSets}
 use Rattle.subgames.specs.Spans.{AreOwnSpans, AreSpans, AreTogether, IsOwnSpan, IsReached, IsSpan}
 use Rattle.subgames.specs.declared.roots.Span.{Span}
-use Rattle.subgames.proofs.SubtreeOrderLemmas.{within-after, within-between}
+use Rattle.game_theory.proofs.SubtreeOrderLemmas.{within-after}
+use Rattle.game_core.proofs.ParentPathLemmas.{within-between}
 
 -- ---- the span of a node alone
 -- a node of a player's set

@@ -7,7 +7,7 @@ use Rattle.game_theory.specs.TreeEquilibrium.{IsEquilibrium}
 use Rattle.game_theory.specs.Trees.{Tree, IsTree}
 use Rattle.subgames.specs.CutGames.{IsCutGame, IsGivenEnd, IsInCut, cut_behaviour}
 use Rattle.subgames.specs.Roots.{IsSubgameRoot}
-use Rattle.subgames.specs.Stability.{IsEquilibriumAt}
+use Rattle.subgames.specs.Perfect.{IsEquilibriumAt}
 
 -- what is given at the ends of a cut is what they are worth to a player under a behaviour
 abbrev pub AreValuesAtEnds : Tree → ℕ → (ℕ → ℕ → ℚ) → Behaviour → ℕ → Type 0

@@ -1,16 +1,9 @@
-pub mod Choices
 pub mod CutGames
 pub mod CutLaws
 pub mod CutParts
 pub mod CutTrees
 pub mod FoundSubgames
-pub mod Games
 pub mod MadeCuts
+pub mod Perfect
 pub mod Roots
 pub mod Spans
-pub mod Stability
-pub mod Stable
-pub mod Stops
-pub mod Text
-pub mod Told
-pub mod Values

@@ -1,5 +1,5 @@
 -- The subgames of a game tree. Source: Selten 1965.
-use Rattle.std.specs.Prelude.{ℕ, ◌<◌, ◌≡◌, ◌⊎◌, ◌↔◌, Bool, true, false, List, Contains, None, Some}
+use Rattle.std.specs.Prelude.{ℕ, ◌<◌, ◌≡◌, ◌⊎◌, ◌↔◌, List, Contains, None, Some}
 use Rattle.std.specs.List.Sorted.{IsStrictlyIncreasing}
 use Rattle.game_theory.specs.OwnSets.{Chooses}
 use Rattle.game_theory.specs.Trees.{Tree, IsWithin}
@@ -21,12 +21,7 @@ HasWholeSets t k =
 abbrev pub IsSubgameRoot : Tree → ℕ → Type 0
 IsSubgameRoot t k = (k ≡ 0) ⊎ (BeginsAlone t k × HasWholeSets t k)
 
--- whether a choice is tested at node k: at each node where a subgame begins, or at the root alone
-abbrev pub IsTestedAt : (perfect : Bool) → Tree → ℕ → Type 0
-IsTestedAt true t k = (k < t.size) × IsSubgameRoot t k
-IsTestedAt false t k = k ≡ 0
-
--- the nodes at which choices are tested, in ascending order
-pub record AreTestNodes (perfect : Bool) (t : Tree) (nodes : List ℕ) : Type 0 where
+-- the nodes at which subgames begin, in ascending order
+pub record AreSubgameRoots (t : Tree) (nodes : List ℕ) : Type 0 where
   pub ascending : IsStrictlyIncreasing nodes
-  pub are_all : (k : ℕ) → Contains nodes k ↔ IsTestedAt perfect t k
+  pub are_all : (k : ℕ) → Contains nodes k ↔ ((k < t.size) × IsSubgameRoot t k)

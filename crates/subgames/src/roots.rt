@@ -1,9 +1,9 @@
 // The nodes at which subgames begin.
-ghost use Rattle.std.specs.Prelude.{◌≡◌, ◌<◌, ◌↔◌, IfOk, IsTrue, length, max, min, true};
+ghost use Rattle.std.specs.Prelude.{◌≡◌, ◌<◌, ◌↔◌, IfOk, IsTrue, length, max, min};
 ghost use Rattle.game_core.specs.TreeGame.{game_of_tree};
 ghost use Rattle.subgames.specs.Spans.{AreOwnSpans, AreSpans, IsOwnSpan};
 ghost use Rattle.subgames.specs.FoundSubgames.{AreRootMarks};
-ghost use Rattle.subgames.specs.Roots.{AreTestNodes, BeginsAlone, HasWholeSets, IsSubgameRoot};
+ghost use Rattle.subgames.specs.Roots.{AreSubgameRoots, BeginsAlone, HasWholeSets, IsSubgameRoot};
 
 use frac128::Memory;
 use game_core::Tree;
@@ -133,9 +133,14 @@ pub(crate) fn root_marks(alloc: Global, tree: &Tree) -> Result<Vec<bool>, Memory
     Ok(begins)
 }
 
-// The nodes at which subgames begin.
-fn subgame_roots(alloc: Global, tree: &Tree) -> Result<Vec<u32>, Memory>
-    ensures { IfOk result (λ roots. AreTestNodes true (game_of_tree tree.now) roots.items) }
+/// The nodes at which the subgames of a tree begin, from 0 and in ascending order; the root is the
+/// first.
+///
+/// # Errors
+///
+/// Memory ran out.
+pub fn subgame_roots(alloc: Global, tree: &Tree) -> Result<Vec<u32>, Memory>
+    ensures { IfOk result (λ roots. AreSubgameRoots (game_of_tree tree.now) roots.items) }
 {
     stands_for_game_tree(tree);
     let begins = root_marks(alloc, tree)?;
@@ -146,16 +151,4 @@ fn subgame_roots(alloc: Global, tree: &Tree) -> Result<Vec<u32>, Memory>
         }
     }
     Ok(roots)
-}
-
-/// The nodes at which choices are tested, in ascending order: those at which subgames begin where
-/// `perfect` is set, and else the tree's root alone.
-pub(crate) fn test_nodes(alloc: Global, perfect: bool, tree: &Tree) -> Result<Vec<u32>, Memory>
-    ensures { IfOk result (λ nodes. AreTestNodes perfect (game_of_tree tree.now) nodes.items) }
-{
-    if perfect {
-        subgame_roots(alloc, tree)
-    } else {
-        Ok(vec![in alloc; 0; 1]?)
-    }
 }

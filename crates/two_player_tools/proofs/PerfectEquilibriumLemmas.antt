@@ -16,7 +16,7 @@ use Rattle.ne_checker.proofs.SameEntryLemmas.{entries-alike}
 use Rattle.subgames.specs.CutGames.{cut_behaviour}
 use Rattle.subgames.specs.CutLaws.{AreValuesAtEnds, IsCutEquilibrium, SetsStandInOneCut, StandsInCut}
 use Rattle.subgames.specs.Roots.{IsSubgameRoot}
-use Rattle.subgames.specs.Stability.{IsSubgamePerfect}
+use Rattle.subgames.specs.Perfect.{IsSubgamePerfect}
 use Rattle.subgames.proofs.CutEquilibriumLemmas.{cut_equilibria_are_perfect}
 use Rattle.subgames.proofs.CutNodeLemmas.{cut-first}
 use Rattle.subgames.proofs.CutValueLemmas.{cuts_keep_values}

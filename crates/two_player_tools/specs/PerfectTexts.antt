@@ -5,7 +5,7 @@ use Rattle.game_theory.specs.Lines.{line_text}
 use Rattle.game_theory.specs.TreeEntries.{tree_entries}
 use Rattle.game_core.specs.Tree.{GameTree}
 use Rattle.game_core.specs.TreeGame.{game_of_tree}
-use Rattle.subgames.specs.Stability.{IsSubgamePerfect}
+use Rattle.subgames.specs.Perfect.{IsSubgamePerfect}
 
 -- a text is the line of behaviour that is an equilibrium in every subgame
 abbrev pub IsPerfectText : GameTree → List ℕ → Type 0

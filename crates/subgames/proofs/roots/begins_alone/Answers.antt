@@ -2,7 +2,7 @@ use Rattle.std.proofs.Common.{◌≡◌, ◌∙◌, true, false, sym, ap}
 use Rattle.std.specs.Prelude.{is_some}
 use Rattle.game_core.specs.TreeGame.{game_of_tree}
 use Rattle.subgames.proofs.RootLemmas.{begins_alone-of_player}
-use Rattle.subgames.proofs.SetReadLemmas.{set-read}
+use Rattle.game_core.proofs.SetReadLemmas.{set-read}
 use Rattle.subgames.proofs.roots.begins_alone.Goals as goal
 
 pub returns-else-is_none : goal.returns-else-is_none

@@ -1,7 +1,7 @@
 use Rattle.std.proofs.Common.{◌-◌, ◌∙◌, List, ℕ, length, get_or, arith}
 use Rattle.std.proofs.lemmas.Option.{slice_get-get_or}
 use Rattle.game_core.specs.TreeGame.{game_of_tree}
-use Rattle.subgames.proofs.SetReadLemmas.{set-read, some-member}
+use Rattle.game_core.proofs.SetReadLemmas.{set-read, some-member}
 use Rattle.subgames.proofs.SpanLemmas.{own_span-of_player}
 use Rattle.subgames.proofs.roots.own_span.Goals as goal
 

@@ -1,8 +1,8 @@
 use Rattle.std.proofs.Common.{ℕ, ◌<◌, ◌≡◌, ◌∙◌, ◌+◌, List, length, false, subst, sym, ap, arith}
 use Rattle.std.proofs.lemmas.List.{get_or_default}
+use Rattle.lists.proofs.AscendingNumberLemmas.{AreListedBelow, AreListedBelow-push, AreListedBelow-skip}
 use Rattle.game_core.specs.TreeGame.{game_of_tree}
 use Rattle.subgames.specs.Roots.{IsSubgameRoot}
-use Rattle.subgames.proofs.RootLemmas.{AreListedBelow, AreListedBelow-push, AreListedBelow-skip}
 use Rattle.subgames.proofs.roots.subgame_roots.Goals as goal
 use Rattle.subgames.proofs.roots.subgame_roots.Goals.{then-index+in_ok-push, else-index}
 

@@ -1,6 +1,6 @@
+use Rattle.lists.proofs.AscendingNumberLemmas.{AreListedBelow}
 use Rattle.game_core.specs.TreeGame.{game_of_tree}
 use Rattle.subgames.specs.Roots.{IsSubgameRoot}
-use Rattle.subgames.proofs.RootLemmas.{AreListedBelow}
 use Rattle.subgames.proofs.roots.subgame_roots.Given as goal
 
 abbrev pub invariant-loop-node : goal.invariant-loop-node

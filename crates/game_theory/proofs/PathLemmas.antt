@@ -1,0 +1,35 @@
+-- What holds along the paths of a tree, and own histories from step to step.
+use Rattle.std.proofs.Common.{ℕ, zero, suc, ◌<◌, ◌≤◌, ◌≡◌, ◌++◌, refl, ap, arith}
+use Rattle.game_theory.specs.Trees.{Tree, IsTree}
+use Rattle.game_theory.specs.Recall.{own_edge, history_to, own_history}
+
+-- what holds of each node that comes before a bound
+below_bound : (t : Tree) (P : ℕ → Type 0) → IsTree t → P 0 → ((c : ℕ) → 0 < c → c < t.size → P (t.parent c) → P c) → (n k : ℕ) → k < n → k < t.size → P k
+below_bound t P w root next zero k h l = absurd (omega arith)
+below_bound t P w root next (suc n) zero h l = root
+below_bound t P w root next (suc n) (suc k) h l =
+    let after : t.parent (suc k) < suc k = w.after_parent (suc k) (omega arith) l in
+    next (suc k) (omega arith) l (below_bound t P w root next n (t.parent (suc k)) (omega arith) (omega arith))
+
+-- what holds of the root, and of each child of a node of which it holds, holds of each node
+pub along_paths : (t : Tree) (P : ℕ → Type 0) → IsTree t → P 0 → ((c : ℕ) → 0 < c → c < t.size → P (t.parent c) → P c) → (k : ℕ) → k < t.size → P k
+along_paths t P w root next k l = below_bound t P w root next (suc k) k (omega arith) l
+
+-- the history of a node does not change where more edges are read than there are
+history_to-enough : (t : Tree) (i : ℕ) → IsTree t → (m n k : ℕ) → k ≤ m → k ≤ n → k < t.size → history_to t i m k ≡ history_to t i n k
+history_to-enough t i w zero zero k g h l = refl
+history_to-enough t i w zero (suc n) zero g h l = refl
+history_to-enough t i w (suc m) zero zero g h l = refl
+history_to-enough t i w (suc m) (suc n) zero g h l = refl
+history_to-enough t i w zero n (suc k) g h l = absurd (omega arith)
+history_to-enough t i w (suc m) zero (suc k) g h l = absurd (omega arith)
+history_to-enough t i w (suc m) (suc n) (suc k) g h l =
+    let after : t.parent (suc k) < suc k = w.after_parent (suc k) (omega arith) l in
+    ap (λ x. x ++ own_edge t i (t.set (t.parent (suc k))) (t.branch (suc k))) (history_to-enough t i w m n (t.parent (suc k)) (omega arith) (omega arith) (omega arith))
+
+-- the history of a node is its parent's, and then the step to the node
+pub own_history-step : (t : Tree) (i c : ℕ) → IsTree t → 0 < c → c < t.size → own_history t i c ≡ own_history t i (t.parent c) ++ own_edge t i (t.set (t.parent c)) (t.branch c)
+own_history-step t i zero w p l = absurd (omega arith)
+own_history-step t i (suc k) w p l =
+    let after : t.parent (suc k) < suc k = w.after_parent (suc k) p l in
+    ap (λ x. x ++ own_edge t i (t.set (t.parent (suc k))) (t.branch (suc k))) (history_to-enough t i w k (t.parent (suc k)) (t.parent (suc k)) (omega arith) (omega arith) (omega arith))

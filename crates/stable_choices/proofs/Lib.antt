@@ -1,0 +1,13 @@
+pub mod BestReplyLemmas
+pub mod ChoiceNumberLemmas
+pub mod ColumnLemmas
+pub mod JoinedChoiceLemmas
+pub mod KeptChoiceLemmas
+pub mod OneTextLaws
+pub mod StabilityLemmas
+pub mod StableAnswerLemmas
+pub mod StableLineLemmas
+pub mod ValueCountLemmas
+pub mod ValueIndexLemmas
+pub mod ValueListLemmas
+pub mod WholeChoiceLemmas
