@@ -1,14 +1,27 @@
+pub mod BestReplyLemmas
+pub mod ChoiceNumberLemmas
+pub mod ColumnLemmas
 mod CompletedListLemmas
 pub mod EquilibriumLineLemmas
 pub mod FormSizeLemmas
+pub mod JoinedChoiceLemmas
+pub mod KeptChoiceLemmas
 mod LineLengthLemmas
 mod ListedCountLemmas
 pub mod ListedLineLemmas
 mod MutualReplyLemmas
+pub mod OneTextLaws
 pub mod OrderedLineLemmas
 pub mod OrderedProfileLemmas
 mod RankSumLemmas
 mod RankedProfileLemmas
 mod SortedOrderLemmas
 mod SortedStrategyLemmas
+pub mod StabilityLemmas
+pub mod StableAnswerLemmas
+pub mod StableLineLemmas
 mod TextLemmas
+pub mod ValueCountLemmas
+pub mod ValueIndexLemmas
+pub mod ValueListLemmas
+pub mod WholeChoiceLemmas

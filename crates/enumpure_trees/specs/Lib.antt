@@ -1,7 +1,16 @@
+pub mod Choices
+pub mod Games
 pub mod Laws
 pub mod Listing
 pub mod Orders
 pub mod Ranks
+pub mod Stability
+pub mod Stable
+pub mod StableStops
+pub mod StableText
 pub mod Stops
 pub mod StrategyOrders
+pub mod TestNodes
+pub mod Told
 pub mod TreeEquilibria
+pub mod Values

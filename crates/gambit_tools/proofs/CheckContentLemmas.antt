@@ -17,16 +17,16 @@ use Rattle.ne_printer.specs.declared.reading.LineStop.{LineStop}
 use Rattle.ne_printer.specs.declared.reading.LineStop.TheVariants as line_stop
 use Rattle.ne_checker.specs.LineChecks.{TableChecksAreSingle, TreeChecksAreSingle, faulty, limited, line_entries, table_check, table_judged, table_line, tree_check, tree_judged, tree_line, unread}
 use Rattle.ne_checker.specs.Lines.{lines_answer}
-use Rattle.ne_checker.specs.TableChecks.{table_verdict}
+use Rattle.verdicts.specs.TableChecks.{table_verdict}
 use Rattle.ne_checker.specs.Texts.{better_text, equilibrium_text, table_told, tree_told}
-use Rattle.ne_checker.specs.TreeVerdicts.{tree_verdict}
+use Rattle.verdicts.specs.TreeVerdicts.{tree_verdict}
 use Rattle.ne_printer.specs.TextLines.{lines_of}
 use Rattle.ne_checker.specs.declared.stops.CheckStop.{CheckStop}
 use Rattle.ne_checker.specs.declared.stops.CheckStop.TheVariants as check_stop
-use Rattle.ne_checker.specs.declared.tables.TableVerdict.{TableVerdict}
-use Rattle.ne_checker.specs.declared.tables.TableVerdict.TheVariants as table_verdicts
-use Rattle.ne_checker.specs.declared.trees.TreeVerdict.{TreeVerdict}
-use Rattle.ne_checker.specs.declared.trees.TreeVerdict.TheVariants as tree_verdicts
+use Rattle.verdicts.specs.declared.tables.TableVerdict.{TableVerdict}
+use Rattle.verdicts.specs.declared.tables.TableVerdict.TheVariants as table_verdicts
+use Rattle.verdicts.specs.declared.trees.TreeVerdict.{TreeVerdict}
+use Rattle.verdicts.specs.declared.trees.TreeVerdict.TheVariants as tree_verdicts
 use Rattle.perfect_recall.specs.Found.{recall_of}
 use Rattle.refusals.specs.Told.{check_refusal, recall_refusal}
 use Rattle.refusals.specs.declared.refusal.Refusal.{Refusal}

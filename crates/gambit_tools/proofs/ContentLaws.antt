@@ -23,10 +23,10 @@ use Rattle.enumpure.specs.declared.listing.ListStop.TheVariants as list_stop
 use Rattle.words.specs.Words.{Command, Enumpure, Enummixed, Lcp, Lp, Convert}
 use Rattle.gambit_tools.specs.Input.{most_bytes}
 use Rattle.refusals.specs.Told.{choice_refusal, text_refusal, nfg_refusal, efg_refusal, list_refusal}
-use Rattle.stable_choices.specs.Stops.{stable_text}
-use Rattle.stable_choices.specs.Values.{value_indices, value_steps}
-use Rattle.stable_choices.specs.declared.stop.ChoiceStop.{ChoiceStop}
-use Rattle.stable_choices.specs.declared.stop.ChoiceStop.TheVariants as choice_stop
+use Rattle.enumpure_trees.specs.StableStops.{stable_text}
+use Rattle.enumpure_trees.specs.Values.{value_indices, value_steps}
+use Rattle.enumpure_trees.specs.declared.stop.ChoiceStop.{ChoiceStop}
+use Rattle.enumpure_trees.specs.declared.stop.ChoiceStop.TheVariants as choice_stop
 use Rattle.two_player_tools.specs.StrategicForms.{strategic_form}
 use Rattle.gambit_tools.specs.Games.{game_of_tokens, game_in}
 use Rattle.gambit_tools.specs.Enumpure.{enumpure, tree_answer}

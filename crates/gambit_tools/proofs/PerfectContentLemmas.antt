@@ -15,10 +15,10 @@ use Rattle.behaviour_profile.specs.Plans.{plan_behaviour}
 use Rattle.perfect_recall.specs.Found.{recall_of}
 use Rattle.sequence_data.specs.Data.{FormData}
 use Rattle.subgames.specs.MadeCuts.{MadeCut}
-use Rattle.ne_checker.specs.BehaviourPayoffs.{behaviour_payoffs_in}
-use Rattle.ne_checker.specs.TreeSteps.{now_steps_at}
-use Rattle.ne_checker.specs.declared.payoffs.PayoffsStop.{PayoffsStop}
-use Rattle.ne_checker.specs.declared.payoffs.PayoffsStop.TheVariants as payoffs_stop
+use Rattle.verdicts.specs.BehaviourPayoffs.{behaviour_payoffs_in}
+use Rattle.verdicts.specs.TreeSteps.{now_steps_at}
+use Rattle.verdicts.specs.declared.payoffs.PayoffsStop.{PayoffsStop}
+use Rattle.verdicts.specs.declared.payoffs.PayoffsStop.TheVariants as payoffs_stop
 use Rattle.zero_sum_lp.specs.PlanPairs.{PlanPair}
 use Rattle.refusals.specs.Told.{behaviour_refusal, recall_refusal}
 use Rattle.refusals.specs.declared.refusal.Refusal.{Refusal}

@@ -15,8 +15,8 @@ use Rattle.enumpure_trees.proofs.EquilibriumLineLemmas.{text-determined}
 use Rattle.enumpure.specs.Stops.{pure_text}
 use Rattle.enumpure.proofs.OneTextLaws.{pure_text-single, within_text_limit-single}
 use Rattle.words.specs.Words.{Command, Enumpure, Enummixed, Lcp, Lp, Convert, Check, Make}
-use Rattle.stable_choices.specs.Stops.{stable_text}
-use Rattle.stable_choices.proofs.OneTextLaws.{stable_text-single}
+use Rattle.enumpure_trees.specs.StableStops.{stable_text}
+use Rattle.enumpure_trees.proofs.OneTextLaws.{stable_text-single}
 use Rattle.refusals.specs.Told.{choice_refusal, form_refusal, list_refusal}
 use Rattle.two_player_tools.specs.GameTypes.{IsGame}
 use Rattle.two_player_tools.specs.Perfect.{lcp_tool, lp_tool}

@@ -15,8 +15,8 @@ use Rattle.enumpure_trees.specs.Stops.{behaviour_text}
 use Rattle.enumpure_trees.specs.TreeEquilibria.{IsTreeEquilibriaText}
 use Rattle.refusals.specs.Told.{choice_refusal, form_refusal, list_refusal}
 use Rattle.refusals.specs.declared.refusal.Refusal.{Refusal}
-use Rattle.stable_choices.specs.Stops.{stable_text}
-use Rattle.stable_choices.specs.Text.{IsStableText}
+use Rattle.enumpure_trees.specs.StableStops.{stable_text}
+use Rattle.enumpure_trees.specs.StableText.{IsStableText}
 use Rattle.two_player_tools.specs.StrategicForms.{strategic_form}
 
 -- The answer for a tree as behaviour: its pure equilibria; but where the agent form or subgames are

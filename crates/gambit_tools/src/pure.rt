@@ -7,12 +7,11 @@ ghost use Rattle.gambit_tools.specs.Outcome.{IsComputed};
 
 use crate::games::read_game;
 use enumpure::list_pure_equilibria;
-use enumpure_trees::list_pure_behaviours;
+use enumpure_trees::{list_pure_behaviours, list_stable_choices};
 use game_core::{Game, Tree};
 use outside::Inputs;
 use reduced_form::reduce;
 use refusals::Refusal;
-use stable_choices::list_stable_choices;
 use std::alloc::Global;
 
 // The text of a tree's pure equilibria as behaviour, or of the choices that pass.

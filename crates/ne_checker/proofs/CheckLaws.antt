@@ -18,19 +18,19 @@ use Rattle.ne_checker.specs.CheckLaws.{TableChecksTell, TellsOfBehaviour, TellsO
 use Rattle.game_core.proofs.LimitLemmas.{text-same}
 use Rattle.ne_checker.specs.LineChecks.{limited, table_line, tree_line}
 use Rattle.ne_checker.specs.Lines.{lines_answer}
-use Rattle.ne_checker.specs.TableChecks.{IsTableVerdict}
-use Rattle.ne_checker.specs.TableLaws.{TableVerdictsFindEquilibria}
+use Rattle.verdicts.specs.TableChecks.{IsTableVerdict}
+use Rattle.verdicts.specs.TableLaws.{TableVerdictsFindEquilibria}
 use Rattle.ne_checker.specs.Texts.{table_told, tree_told}
-use Rattle.ne_checker.specs.TreeVerdictLaws.{AllRecall, TreeVerdictsFindEquilibria}
-use Rattle.ne_checker.specs.TreeVerdicts.{IsTreeVerdict}
+use Rattle.verdicts.specs.TreeVerdictLaws.{AllRecall, TreeVerdictsFindEquilibria}
+use Rattle.verdicts.specs.TreeVerdicts.{IsTreeVerdict}
 use Rattle.ne_checker.specs.declared.stops.CheckStop.{CheckStop}
-use Rattle.ne_checker.specs.declared.tables.TableVerdict.{TableVerdict}
-use Rattle.ne_checker.specs.declared.tables.TableVerdict.TheVariants as table_verdicts
-use Rattle.ne_checker.specs.declared.trees.TreeVerdict.{TreeVerdict}
-use Rattle.ne_checker.specs.declared.trees.TreeVerdict.TheVariants as tree_verdicts
-use Rattle.ne_checker.proofs.AlikeVerdictLemmas.{verdict-alike}
-use Rattle.ne_checker.proofs.SameEntryLemmas.{entries-alike}
-use Rattle.ne_checker.proofs.TableSingleLemmas.{verdict-same}
+use Rattle.verdicts.specs.declared.tables.TableVerdict.{TableVerdict}
+use Rattle.verdicts.specs.declared.tables.TableVerdict.TheVariants as table_verdicts
+use Rattle.verdicts.specs.declared.trees.TreeVerdict.{TreeVerdict}
+use Rattle.verdicts.specs.declared.trees.TreeVerdict.TheVariants as tree_verdicts
+use Rattle.verdicts.proofs.AlikeVerdictLemmas.{verdict-alike}
+use Rattle.verdicts.proofs.SameEntryLemmas.{entries-alike}
+use Rattle.verdicts.proofs.TableSingleLemmas.{verdict-same}
 use Rattle.ne_checker.proofs.TreeLineLemmas.{tested_behaviour}
 
 -- ---- all lines

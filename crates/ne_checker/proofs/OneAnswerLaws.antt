@@ -11,14 +11,14 @@ use Rattle.ne_printer.specs.ReadLines.{line_in}
 use Rattle.ne_printer.proofs.LinesReadLemmas.{line_told}
 use Rattle.game_core.specs.Limits.{limited_text}
 use Rattle.game_core.proofs.LimitLemmas.{limited_text-single}
-use Rattle.ne_checker.specs.TableChecks.{table_verdict}
-use Rattle.ne_checker.specs.TreeVerdicts.{tree_verdict}
-use Rattle.ne_checker.specs.TreeVerdictLaws.{AllRecall, TreeVerdictsAreSingle}
-use Rattle.ne_checker.specs.declared.tables.TableVerdict.{TableVerdict}
-use Rattle.ne_checker.specs.declared.tables.TableVerdict.TheVariants as table_verdicts
-use Rattle.ne_checker.specs.declared.trees.TreeVerdict.{TreeVerdict}
-use Rattle.ne_checker.specs.declared.trees.TreeVerdict.TheVariants as tree_verdicts
-use Rattle.ne_checker.proofs.TableSingleLemmas.{verdict_once}
+use Rattle.verdicts.specs.TableChecks.{table_verdict}
+use Rattle.verdicts.specs.TreeVerdicts.{tree_verdict}
+use Rattle.verdicts.specs.TreeVerdictLaws.{AllRecall, TreeVerdictsAreSingle}
+use Rattle.verdicts.specs.declared.tables.TableVerdict.{TableVerdict}
+use Rattle.verdicts.specs.declared.tables.TableVerdict.TheVariants as table_verdicts
+use Rattle.verdicts.specs.declared.trees.TreeVerdict.{TreeVerdict}
+use Rattle.verdicts.specs.declared.trees.TreeVerdict.TheVariants as tree_verdicts
+use Rattle.verdicts.proofs.TableSingleLemmas.{verdict_once}
 use Rattle.ne_checker.specs.LineChecks.{faulty, limited, line_entries, table_judged, table_line, tree_judged, tree_line, unread, TableChecksAreSingle, TreeChecksAreSingle}
 use Rattle.ne_checker.specs.Lines.{lines_answer}
 use Rattle.ne_printer.specs.TextLines.{lines_of}

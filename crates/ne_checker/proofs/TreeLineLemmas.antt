@@ -11,9 +11,9 @@ use Rattle.behaviour_profile.specs.EntryLaws.{TestedEntriesAreBehaviours}
 use Rattle.behaviour_profile.specs.EntryTests.{action_counts, profile_in}
 use Rattle.behaviour_profile.proofs.ProfileAnswerLemmas.{passed_same}
 use Rattle.ne_printer.specs.ReadLines.{IsLine}
-use Rattle.ne_checker.specs.TreeVerdicts.{tree_verdict}
-use Rattle.ne_checker.specs.declared.trees.TreeVerdict.{TreeVerdict}
-use Rattle.ne_checker.specs.declared.trees.TreeVerdict.TheVariants as verdicts
+use Rattle.verdicts.specs.TreeVerdicts.{tree_verdict}
+use Rattle.verdicts.specs.declared.trees.TreeVerdict.{TreeVerdict}
+use Rattle.verdicts.specs.declared.trees.TreeVerdict.TheVariants as verdicts
 use Rattle.ne_checker.specs.LineChecks.{tree_line}
 use Rattle.ne_checker.specs.Texts.{tree_told}
 use Rattle.ne_checker.specs.declared.stops.CheckStop.TheVariants as stops

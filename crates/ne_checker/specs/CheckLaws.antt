@@ -15,9 +15,9 @@ use Rattle.game_core.specs.TreeGame.{game_of_tree}
 use Rattle.ne_printer.specs.ReadLines.{line_in}
 use Rattle.ne_printer.specs.TextLines.{lines_of}
 use Rattle.ne_checker.specs.LineChecks.{table_check, tree_check}
-use Rattle.ne_checker.specs.TableLaws.{ShowsBetterStrategy}
+use Rattle.verdicts.specs.TableLaws.{ShowsBetterStrategy}
 use Rattle.ne_checker.specs.Texts.{better_text, equilibrium_text}
-use Rattle.ne_checker.specs.TreeVerdictLaws.{AllRecall, ShowsBetterReply}
+use Rattle.verdicts.specs.TreeVerdictLaws.{AllRecall, ShowsBetterReply}
 
 -- the text says of a mixed profile that it is an equilibrium, and it is one; or it names the first
 -- player who has a better strategy, and the first that pays the most

@@ -1,14 +1,4 @@
-pub mod BehaviourPayoffs
 pub mod CheckLaws
 pub mod LineChecks
 pub mod Lines
-pub mod TableChecks
-pub mod TableLaws
 pub mod Texts
-pub mod TreeBoards
-pub mod TreeScratches
-pub mod TreeSides
-pub mod TreeSteps
-pub mod TreeVerdictLaws
-pub mod TreeVerdicts
-pub mod TreeWeights

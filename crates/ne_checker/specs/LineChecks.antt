@@ -12,9 +12,9 @@ use Rattle.behaviour_profile.specs.declared.entries.ProfileFault.TheVariants as 
 use Rattle.ne_printer.specs.ReadLines.{line_in}
 use Rattle.ne_printer.specs.declared.reading.LineStop.{LineStop}
 use Rattle.ne_printer.specs.declared.reading.LineStop.TheVariants as line_stops
-use Rattle.ne_checker.specs.TableChecks.{table_verdict}
-use Rattle.ne_checker.specs.TreeVerdicts.{tree_verdict}
-use Rattle.ne_checker.specs.TreeVerdictLaws.{AllRecall}
+use Rattle.verdicts.specs.TableChecks.{table_verdict}
+use Rattle.verdicts.specs.TreeVerdicts.{tree_verdict}
+use Rattle.verdicts.specs.TreeVerdictLaws.{AllRecall}
 use Rattle.ne_checker.specs.Lines.{lines_answer}
 use Rattle.ne_printer.specs.TextLines.{lines_of}
 use Rattle.ne_checker.specs.Texts.{table_told, tree_told}

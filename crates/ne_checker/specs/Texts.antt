@@ -7,10 +7,10 @@ use Rattle.rational.specs.Rational.{ℚ}
 use Rattle.game_theory.specs.Lines.{number_text}
 use Rattle.ne_checker.specs.declared.stops.CheckStop.{CheckStop}
 use Rattle.ne_checker.specs.declared.stops.CheckStop.TheVariants as stops
-use Rattle.ne_checker.specs.declared.tables.TableVerdict.{TableVerdict}
-use Rattle.ne_checker.specs.declared.tables.TableVerdict.TheVariants as table_verdicts
-use Rattle.ne_checker.specs.declared.trees.TreeVerdict.{TreeVerdict}
-use Rattle.ne_checker.specs.declared.trees.TreeVerdict.TheVariants as tree_verdicts
+use Rattle.verdicts.specs.declared.tables.TableVerdict.{TableVerdict}
+use Rattle.verdicts.specs.declared.tables.TableVerdict.TheVariants as table_verdicts
+use Rattle.verdicts.specs.declared.trees.TreeVerdict.{TreeVerdict}
+use Rattle.verdicts.specs.declared.trees.TreeVerdict.TheVariants as tree_verdicts
 
 -- no player can do better
 abbrev pub equilibrium_text : List ℕ

@@ -7,11 +7,11 @@ ghost use Rattle.ne_checker.specs.declared.stops.CheckStop.TheVariants as stops;
 use crate::kept_text::{keep, within_limit};
 use crate::stops::{CheckStop, faulty, unread};
 use crate::texts::{better_strategy, equilibrium};
-use crate::{Mixed, TableVerdict, check_table, table_verdicts_find_equilibria};
 use behaviour_profile::{profiles_are_single, tested_entries_are_profiles};
 use game_core::Table;
 use ne_printer::{first_line, read_line};
 use std::alloc::Global;
+use verdicts::{Mixed, TableVerdict, check_table, table_verdicts_find_equilibria};
 
 // The text of the verdict on a line.
 fn table_line(alloc: Global, table: &Table, number: u64, line: &[u8]) -> Result<Vec<u8>, CheckStop>

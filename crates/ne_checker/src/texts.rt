@@ -1,13 +1,13 @@
 // The texts of verdicts.
 ghost use Rattle.std.specs.Prelude.{◌≡◌, ◌<◌, ◌^◌, ◌++◌, [], ◌∷◌, length, IfOk, OnOk};
 ghost use Rattle.std.specs.List.{flat_map};
-ghost use Rattle.ne_checker.specs.TreeScratches.{reply_of};
+ghost use Rattle.verdicts.specs.TreeScratches.{reply_of};
 ghost use Rattle.ne_checker.specs.Texts.{better_start, better_text, choice_text, equilibrium_text};
 
-use crate::Scratch;
 use frac128::{Frac, Memory};
 use ne_printer::fraction_text;
 use std::alloc::Global;
+use verdicts::Scratch;
 
 /// The text of an equilibrium.
 pub(crate) fn equilibrium(alloc: Global) -> Result<Vec<u8>, Memory>

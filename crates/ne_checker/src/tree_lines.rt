@@ -2,7 +2,7 @@
 ghost use Rattle.answers.specs.Answers.{Gives, map_ok};
 ghost use Rattle.game_core.specs.TreeGame.{game_of_tree};
 ghost use Rattle.perfect_recall.specs.Found.{IsRecallOf};
-ghost use Rattle.ne_checker.specs.TreeScratches.{IsScratchOf};
+ghost use Rattle.verdicts.specs.TreeScratches.{IsScratchOf};
 ghost use Rattle.ne_checker.specs.CheckLaws.{TreeChecksTell};
 ghost use Rattle.ne_checker.specs.LineChecks.{TreeChecksAreSingle, tree_check, tree_line};
 ghost use Rattle.ne_checker.specs.declared.stops.CheckStop.TheVariants as stops;
@@ -10,15 +10,15 @@ ghost use Rattle.ne_checker.specs.declared.stops.CheckStop.TheVariants as stops;
 use crate::kept_text::{keep, within_limit};
 use crate::stops::{CheckStop, faulty, unread};
 use crate::texts::{better_reply, equilibrium};
-use crate::{
-    Scratch, TreeVerdict, check_tree, tree_verdicts_are_single, tree_verdicts_find_equilibria,
-};
 use behaviour_profile::{Behaviour, profiles_are_single, tested_entries_are_behaviours};
 use game_core::tree_parts::stands_for_game_tree;
 use game_core::{Tree, trees_are_game_trees};
 use ne_printer::{first_line, read_line};
 use perfect_recall::Recall;
 use std::alloc::Global;
+use verdicts::{
+    Scratch, TreeVerdict, check_tree, tree_verdicts_are_single, tree_verdicts_find_equilibria,
+};
 
 // The text of the verdict on a line.
 fn tree_line(

@@ -7,8 +7,8 @@ use Rattle.efg_reader.specs.declared.fault.EfgStop.{EfgStop}
 use Rattle.efg_reader.specs.declared.fault.EfgStop.TheVariants as efg_stop
 use Rattle.reduced_form.specs.declared.stop.ReduceStop.{ReduceStop}
 use Rattle.reduced_form.specs.declared.stop.ReduceStop.TheVariants as reduce_stop
-use Rattle.stable_choices.specs.declared.stop.ChoiceStop.{ChoiceStop}
-use Rattle.stable_choices.specs.declared.stop.ChoiceStop.TheVariants as choice_stop
+use Rattle.enumpure_trees.specs.declared.stop.ChoiceStop.{ChoiceStop}
+use Rattle.enumpure_trees.specs.declared.stop.ChoiceStop.TheVariants as choice_stop
 use Rattle.enumpure.specs.declared.listing.ListStop.{ListStop}
 use Rattle.enumpure.specs.declared.listing.ListStop.TheVariants as list_stop
 use Rattle.enummixed.specs.declared.stop.MixedStop.{MixedStop}

@@ -6,6 +6,7 @@ use convert_tables::ConvertStop;
 use efg_reader::EfgStop;
 use enummixed::MixedStop;
 use enumpure::ListStop;
+use enumpure_trees::ChoiceStop;
 use game_core::TooLarge;
 use game_text::TextStop;
 use lemke_pivot::LcpStop;
@@ -15,7 +16,6 @@ use nfg_reader::NfgStop;
 use perfect_recall::RecallStop;
 use reduced_form::{KeptStop, ReduceStop};
 use sequence_form::SeqStop;
-use stable_choices::ChoiceStop;
 use std::alloc::AllocError;
 use zero_sum_lp::{LpStop, PlanStop};
 

@@ -10,7 +10,7 @@
 //! Private words: `specs::Spans`, how far subtrees and the players' sets in them reach, and `CutParts`,
 //! of which parts a cut is made.
 //! Lemmas for callers: `proofs::CutWalkLemmas`, `CutWorthLemmas`, `CutNodeLemmas`.
-//! A change here touches: `stable_choices`, `two_player_tools`, and what `enumpure -P`, `lcp -P` and
+//! A change here touches: `enumpure_trees`, `two_player_tools`, and what `enumpure -P`, `lcp -P` and
 //! `lp -P` print.
 #![tactic(auto)]
 

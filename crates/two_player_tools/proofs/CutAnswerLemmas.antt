@@ -10,10 +10,10 @@ use Rattle.game_core.specs.TreeGame.{game_of_tree}
 use Rattle.game_core.specs.declared.game.Game.TheVariants.{Extensive}
 use Rattle.behaviour_profile.specs.Plans.{plan_behaviour}
 use Rattle.behaviour_profile.proofs.PlanStopLemmas.{plan_behaviour-single}
-use Rattle.ne_checker.specs.TreeSteps.{now_steps_at}
-use Rattle.ne_checker.specs.declared.payoffs.PayoffsStop.TheVariants as payoffs_stop
-use Rattle.ne_checker.proofs.AlikeBehaviourLemmas.{behaviour_payoffs-alike}
-use Rattle.ne_checker.proofs.SameEntryLemmas.{entries-alike}
+use Rattle.verdicts.specs.TreeSteps.{now_steps_at}
+use Rattle.verdicts.specs.declared.payoffs.PayoffsStop.TheVariants as payoffs_stop
+use Rattle.verdicts.proofs.AlikeBehaviourLemmas.{behaviour_payoffs-alike}
+use Rattle.verdicts.proofs.SameEntryLemmas.{entries-alike}
 use Rattle.sequence_data.specs.Data.{FormData, IsFormData}
 use Rattle.sequence_form.specs.Counts.{problem_rows, size_of_program}
 use Rattle.subgames.specs.MadeCuts.{MadeCut}

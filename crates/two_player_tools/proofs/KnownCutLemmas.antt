@@ -25,7 +25,7 @@ use Rattle.subgames.specs.MadeCuts.{MadeCut}
 use Rattle.subgames.specs.Roots.{IsSubgameRoot}
 use Rattle.subgames.proofs.CutWalkLemmas.{cut-after}
 use Rattle.subgames.proofs.CutWorthLemmas.{same_worth}
-use Rattle.ne_checker.proofs.AlikeBehaviourLemmas.{AreAlike, tree_entries-alike, value-alike}
+use Rattle.verdicts.proofs.AlikeBehaviourLemmas.{AreAlike, tree_entries-alike, value-alike}
 use Rattle.refusals.specs.declared.refusal.Refusal.{Refusal}
 use Rattle.refusals.specs.declared.refusal.Refusal.TheVariants as refusal
 use Rattle.two_player_tools.specs.KnownCuts.{AreKeptTo, AreSolvedFrom, IsRoomFor, behaviour_in, lists_of, worth_in}

@@ -11,8 +11,8 @@ use Rattle.game_theory.specs.TreeEquilibrium.{IsEquilibrium}
 use Rattle.game_theory.specs.Trees.{IsTree}
 use Rattle.game_core.specs.Tree.{GameTree, IsGameTree}
 use Rattle.game_core.specs.TreeGame.{game_of_tree}
-use Rattle.ne_checker.proofs.AlikeBehaviourLemmas.{equilibrium-alike}
-use Rattle.ne_checker.proofs.SameEntryLemmas.{entries-alike}
+use Rattle.verdicts.proofs.AlikeBehaviourLemmas.{equilibrium-alike}
+use Rattle.verdicts.proofs.SameEntryLemmas.{entries-alike}
 use Rattle.subgames.specs.CutGames.{cut_behaviour}
 use Rattle.subgames.specs.CutLaws.{AreValuesAtEnds, IsCutEquilibrium, SetsStandInOneCut, StandsInCut}
 use Rattle.subgames.specs.Roots.{IsSubgameRoot}

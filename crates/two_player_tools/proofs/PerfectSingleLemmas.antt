@@ -12,7 +12,7 @@ use Rattle.game_core.specs.Tree.{GameTree, IsGameTree}
 use Rattle.game_core.specs.TreeGame.{game_of_tree}
 use Rattle.game_core.specs.declared.game.Game.TheVariants.{Extensive}
 use Rattle.perfect_recall.specs.Found.{recall_of}
-use Rattle.ne_checker.proofs.AlikeBehaviourLemmas.{AreAlike, tree_entries-alike}
+use Rattle.verdicts.proofs.AlikeBehaviourLemmas.{AreAlike, tree_entries-alike}
 use Rattle.subgames.specs.CutLaws.{SetsStandInOneCut, StandsInCut}
 use Rattle.subgames.specs.CutTrees.{AgreeAtEnds}
 use Rattle.subgames.specs.Roots.{IsSubgameRoot}

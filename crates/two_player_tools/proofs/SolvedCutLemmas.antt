@@ -10,8 +10,8 @@ use Rattle.game_theory.specs.Trees.{Tree}
 use Rattle.game_core.specs.Tree.{GameTree, IsGameTree}
 use Rattle.game_core.specs.TreeGame.{game_of_tree}
 use Rattle.game_core.proofs.TreeLaws.{set-used}
-use Rattle.ne_checker.proofs.AlikeBehaviourLemmas.{AreAlike, value-alike}
-use Rattle.ne_checker.proofs.SameEntryLemmas.{entries-alike}
+use Rattle.verdicts.proofs.AlikeBehaviourLemmas.{AreAlike, value-alike}
+use Rattle.verdicts.proofs.SameEntryLemmas.{entries-alike}
 use Rattle.subgames.specs.CutGames.{IsCutGame, IsGivenEnd, IsSameSet, cut_behaviour}
 use Rattle.subgames.specs.CutLaws.{SetsStandInOneCut, StandsInCut}
 use Rattle.subgames.specs.CutTrees.{AgreeAtEnds, IsCutAt}

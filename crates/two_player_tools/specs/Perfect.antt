@@ -18,9 +18,9 @@ use Rattle.subgames.specs.CutGames.{cut_behaviour}
 use Rattle.subgames.specs.CutTrees.{IsCutAt}
 use Rattle.subgames.specs.MadeCuts.{MadeCut}
 use Rattle.subgames.specs.Roots.{IsSubgameRoot}
-use Rattle.ne_checker.specs.BehaviourPayoffs.{behaviour_payoffs_in}
-use Rattle.ne_checker.specs.declared.payoffs.PayoffsStop.{PayoffsStop}
-use Rattle.ne_checker.specs.declared.payoffs.PayoffsStop.TheVariants as payoffs_stop
+use Rattle.verdicts.specs.BehaviourPayoffs.{behaviour_payoffs_in}
+use Rattle.verdicts.specs.declared.payoffs.PayoffsStop.{PayoffsStop}
+use Rattle.verdicts.specs.declared.payoffs.PayoffsStop.TheVariants as payoffs_stop
 use Rattle.zero_sum_lp.specs.PlanPairs.{PlanPair}
 use Rattle.refusals.specs.Told.{behaviour_refusal, recall_refusal}
 use Rattle.refusals.specs.declared.refusal.Refusal.{Refusal}

@@ -51,13 +51,13 @@ use behaviour_profile::{Behaviour, starts_of};
 use frac128::{Frac, Memory};
 use game_core::tree_parts::{action_count, owner, stands_for_game_tree};
 use game_core::{Tree, trees_are_game_trees};
-use ne_checker::{PayoffsStop, behaviour_payoffs};
 use ne_printer::line;
 use perfect_recall::find_recall;
 use refusals::{Refusal, Site};
 use sequence_form::SeqForm;
 use std::alloc::Global;
 use subgames::{Cut, Subgames, sets_stand_in_one_cut};
+use verdicts::{PayoffsStop, behaviour_payoffs};
 
 /// What is known once the cuts at some of the nodes where subgames begin are solved.
 #[derive(Drop)]

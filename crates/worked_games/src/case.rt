@@ -1,7 +1,7 @@
 // One run over memory, and what it must do.
 use answers::Memory;
 use gambit_tools::run;
-use game_core::{MemInputs, MemSink, OpenGate};
+use game_core::{Gate, MemInputs, MemSink, OpenGate};
 use std::alloc::Global;
 use std::thread::Threads;
 
@@ -44,23 +44,33 @@ impl<'a> Case<'a> {
 
     /// Whether the run does what is wanted.
     pub fn holds<R: Threads + Sync>(&self, rt: &R, alloc: Global) -> Result<bool, Memory> {
-        let (status, out, err) = self.ends(rt, alloc)?;
+        self.holds_through(rt, alloc, &OpenGate)
+    }
+
+    /// The same, through a gate.
+    pub fn holds_through<R: Threads + Sync, G: Gate>(
+        &self,
+        rt: &R,
+        alloc: Global,
+        gate: &G,
+    ) -> Result<bool, Memory> {
+        let (status, out, err) = self.ends(rt, alloc, gate)?;
         let taken = out.taken() == self.out && err.taken() == self.err.as_bytes();
         Ok(status == self.status && taken)
     }
 
-    // How the run ends: its status and both sinks.
-    fn ends<R: Threads + Sync>(
+    /// How the run ends: its status and both sinks.
+    pub fn ends<R: Threads + Sync, G: Gate>(
         &self,
         rt: &R,
         alloc: Global,
+        gate: &G,
     ) -> Result<(u8, MemSink, MemSink), Memory> {
         let mut inputs = self.inputs(alloc)?;
         let most = self.out_most.max(1);
         let mut out = MemSink::new(alloc, most, self.room, self.flush_fails)?;
         let mut err = MemSink::new(alloc, 1000, self.err_room, false)?;
         let words = owned(alloc, self.words)?;
-        let gate = &OpenGate;
         let status = run(rt, alloc, &words, &mut inputs, &mut out, &mut err, gate);
         Ok((status, out, err))
     }

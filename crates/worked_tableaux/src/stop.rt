@@ -2,11 +2,12 @@
 use frac128::Memory;
 use std::alloc::{AllocError, AllocFailed};
 
-/// There was no memory, or a step does not fit.
+/// There was no memory, a step does not fit, or an enumeration was refused.
 #[derive(Debug, Drop)]
 pub enum Stop {
     Memory,
     Unfit,
+    Refused,
 }
 
 impl From<Memory> for Stop {

@@ -4,8 +4,8 @@ use Rattle.answers.specs.Answers.{Gives, refused_by}
 use Rattle.answers.proofs.AnswerLemmas.{gives_refused}
 use Rattle.game_core.specs.Tree.{GameTree}
 use Rattle.game_core.specs.TreeGame.{game_of_tree}
-use Rattle.stable_choices.specs.Stops.{stable_text}
-use Rattle.stable_choices.specs.declared.stop.ChoiceStop.TheVariants as choice_stop
+use Rattle.enumpure_trees.specs.StableStops.{stable_text}
+use Rattle.enumpure_trees.specs.declared.stop.ChoiceStop.TheVariants as choice_stop
 use Rattle.refusals.specs.Told.{choice_refusal}
 use Rattle.refusals.specs.declared.refusal.Refusal.{Refusal}
 use Rattle.refusals.specs.declared.refusal.Refusal.TheVariants as refusal

@@ -6,7 +6,7 @@ use Rattle.game_core.specs.declared.game.Game.TheVariants.{Strategic, Extensive}
 use Rattle.game_core.specs.Tree.{GameTree}
 use Rattle.game_core.specs.TreeGame.{game_of_tree}
 use Rattle.enumpure.proofs.OneTextLaws.{text-is}
-use Rattle.stable_choices.proofs.OneTextLaws.{stable_text-is}
+use Rattle.enumpure_trees.proofs.OneTextLaws.{stable_text-is}
 use Rattle.gambit_tools.specs.Enumpure.{IsPureText, IsTreeText, enumpure, tree_answer}
 use Rattle.gambit_tools.specs.Make.{counts_text}
 use Rattle.gambit_tools.proofs.ReadGameLemmas.{game_in-valid}

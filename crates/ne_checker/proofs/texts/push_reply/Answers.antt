@@ -1,8 +1,8 @@
 use Rattle.std.proofs.Common.{sym, arith}
 use Rattle.std.proofs.lemmas.Option.{slice_get_within}
-use Rattle.ne_checker.specs.TreeScratches.{reply_of}
+use Rattle.verdicts.specs.TreeScratches.{reply_of}
 use Rattle.ne_checker.specs.Texts.{choice_text}
-use Rattle.ne_checker.proofs.ChoiceLemmas.{all_written, one_more}
+use Rattle.verdicts.proofs.ChoiceLemmas.{all_written, one_more}
 use Rattle.ne_checker.proofs.texts.push_reply.Goals as goal
 
 pub loop-action-preserved : goal.loop-action-preserved

@@ -1,6 +1,6 @@
 use Rattle.std.proofs.Common.{◌≡◌, ◌≤◌, ◌-◌, ◌++◌, length, take}
 use Rattle.std.specs.List.{flat_map}
-use Rattle.ne_checker.specs.TreeScratches.{reply_of}
+use Rattle.verdicts.specs.TreeScratches.{reply_of}
 use Rattle.ne_checker.specs.Texts.{choice_text}
 use Rattle.ne_checker.proofs.texts.push_reply.Given as goal
 

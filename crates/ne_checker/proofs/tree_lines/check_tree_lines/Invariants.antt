@@ -1,5 +1,5 @@
 use Rattle.std.proofs.Common.{length}
-use Rattle.ne_checker.specs.TreeScratches.{IsScratchOf}
+use Rattle.verdicts.specs.TreeScratches.{IsScratchOf}
 use Rattle.ne_checker.specs.LineChecks.{tree_line}
 use Rattle.ne_checker.proofs.LineStepLemmas.{IsOnWay}
 use Rattle.ne_checker.proofs.tree_lines.check_tree_lines.Given as goal

@@ -1,6 +1,6 @@
 use Rattle.std.proofs.Common.{inr, ap, Ok}
-use Rattle.ne_checker.specs.TreeScratches.{reply_of}
-use Rattle.ne_checker.specs.declared.trees.TreeVerdict.TheVariants as verdicts
+use Rattle.verdicts.specs.TreeScratches.{reply_of}
+use Rattle.verdicts.specs.declared.trees.TreeVerdict.TheVariants as verdicts
 use Rattle.ne_checker.proofs.TreeLineLemmas.{line_out_of_range, line_told, tested_behaviour}
 use Rattle.ne_checker.proofs.tree_lines.tree_line.Goals as goal
 

@@ -1,0 +1,43 @@
+-- The values of nodes under each choice, and the steps in which they are computed.
+use Rattle.std.specs.Prelude.{ℕ, ◌*◌, List, length, map}
+use Rattle.std.specs.List.{flat_map, range_with_len}
+use Rattle.frac128.specs.Steps.{Step}
+use Rattle.game_theory.specs.Behaviour.{pure, value}
+use Rattle.game_theory.specs.Trees.{Tree}
+use Rattle.pure_payoffs.specs.Steps.{steps_at}
+use Rattle.rational.specs.Rational.{ℚ}
+use Rattle.enumpure_trees.specs.Choices.{numbered_choice, whole_choices}
+
+-- which value: of the choice with a number, at a node, for a player
+pub record ValueIndex : Type 0 where
+  pub choice : ℕ
+  pub node : ℕ
+  pub player : ℕ
+
+abbrev pub value_index : ℕ → ℕ → ℕ → ValueIndex
+value_index choice node player = record { choice = choice; node = node; player = player }
+
+-- the values of one choice: node by node, and in each player by player
+abbrev pub indices_of : Tree → List ℕ → ℕ → List ValueIndex
+indices_of t nodes n =
+    flat_map (λ k. map (value_index n k) (range_with_len 0 t.players)) nodes
+
+-- those of all choices in order
+abbrev pub value_indices : Tree → List ℕ → List ValueIndex
+value_indices t nodes = flat_map (indices_of t nodes) (range_with_len 0 (whole_choices t))
+
+-- how many there are
+abbrev pub value_count : Tree → List ℕ → ℕ
+value_count t nodes = whole_choices t * (length nodes * t.players)
+
+-- the value with an index
+abbrev pub value_at : Tree → ValueIndex → ℚ
+value_at t v = value t (pure (numbered_choice t v.choice)) v.player v.node
+
+-- the values of all choices in order
+abbrev pub choice_values : Tree → List ℕ → List ℚ
+choice_values t nodes = map (value_at t) (value_indices t nodes)
+
+-- the steps of the value with an index
+abbrev pub value_steps : Tree → ValueIndex → List Step
+value_steps t v = steps_at t (numbered_choice t v.choice) v.player v.node

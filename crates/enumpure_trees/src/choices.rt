@@ -1,0 +1,49 @@
+// The players' sets, and how many actions they have.
+ghost use Rattle.std.specs.Prelude.{◌≡◌, ◌++◌, IfOk, OnOk};
+ghost use Rattle.game_core.specs.TreeGame.{game_of_tree};
+ghost use Rattle.game_theory.specs.OwnSets.{own_sets, player_sets};
+ghost use Rattle.enumpure_trees.specs.Choices.{action_counts};
+
+use frac128::Memory;
+use game_core::Tree;
+use game_core::tree_parts::{action_count, stands_for_game_tree};
+use std::alloc::Global;
+
+// Adds a player's own sets in order.
+fn push_own_sets(tree: &Tree, sets: &mut Vec<u32>, player: u32) -> Result<(), Memory>
+    ensures { OnOk result
+        (sets.new.items ≡ sets.old.items ++ own_sets (game_of_tree tree.now) player) }
+{
+    stands_for_game_tree(tree);
+    for number in 0..tree.sets().len() {
+        match tree.own_sets(player, number as u32) {
+            Some(set) => sets.push(set)?,
+            None => return Ok(()),
+        }
+    }
+    Ok(())
+}
+
+/// The players' sets: player by player, and in each set by set.
+pub(crate) fn player_sets(alloc: Global, tree: &Tree) -> Result<Vec<u32>, Memory>
+    ensures { IfOk result (λ sets. sets.items ≡ player_sets (game_of_tree tree.now)) }
+{
+    stands_for_game_tree(tree);
+    let mut sets = Vec::new(alloc);
+    for player in 0..tree.players().len() {
+        push_own_sets(tree, &mut sets, player as u32)?;
+    }
+    Ok(sets)
+}
+
+/// How many actions each of these sets has.
+pub(crate) fn action_counts(alloc: Global, tree: &Tree, sets: &[u32]) -> Result<Vec<usize>, Memory>
+    requires { sets.now ≡ player_sets (game_of_tree tree.now) }
+    ensures { IfOk result (λ counts. counts.items ≡ action_counts (game_of_tree tree.now)) }
+{
+    let mut counts = Vec::with_capacity(alloc, sets.len())?;
+    for set in sets {
+        counts.push(action_count(tree, *set as usize))?;
+    }
+    Ok(counts)
+}

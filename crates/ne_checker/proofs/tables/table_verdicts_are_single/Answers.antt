@@ -1,5 +1,0 @@
-use Rattle.ne_checker.proofs.TableSingleLemmas.{verdict_once}
-use Rattle.ne_checker.proofs.tables.table_verdicts_are_single.Goals as goal
-
-pub returns : goal.returns
-returns c = verdict_once

@@ -1,9 +1,0 @@
-pub mod Choices
-pub mod Games
-pub mod Stability
-pub mod Stable
-pub mod Stops
-pub mod TestNodes
-pub mod Text
-pub mod Told
-pub mod Values

@@ -1,0 +1,82 @@
+-- The probabilities of the others, multiplied player by player.
+use Rattle.std.proofs.Common.{ℕ, suc, ◌+◌, ◌/◌, ◌%◌, ◌<◌, ◌≡◌, ◌≢◌, Bool, true, false, Decides, List, [], ◌∷◌, ◌++◌, Ok, Err, Result, length, get_or, drop, refl, sym, ap, ap₂, ◌∙◌, subst, drop-cons, arith}
+use Rattle.std.specs.Prelude.{◌==◌, if◌then◌else◌}
+use Rattle.std.proofs.lemmas.Bool.Decides.{Decides-eqb}
+use Rattle.rational.specs.Rational.{ℚ, ◌*ℚ◌, one_ℚ}
+use Rattle.rational.proofs.RationalRing.{*ℚ_assoc, *ℚ-one}
+use Rattle.rational.proofs.Rules.{one-*ℚ}
+use Rattle.frac128.specs.Steps.{MulFits, unfit, Step, IsFirstUnfit, StepsGive}
+use Rattle.frac128.specs.declared.steps.Op.TheVariants.{Mul}
+use Rattle.frac128.specs.declared.steps.Unfit.{Unfit}
+use Rattle.game_theory.specs.Profiles.{profile_at}
+use Rattle.game_theory.specs.Mixed.{Mixed, later, probability}
+use Rattle.frac128.proofs.StepRunLemmas.{first_unfit-here, one-fits, following-gives}
+use Rattle.best_replies.specs.Strategies.{own_as_one, weight}
+use Rattle.verdicts.specs.TableChecks.{others_from, others_probabilities, product_steps}
+
+-- the probabilities of the players from j on
+abbrev from : Mixed → ℕ → Mixed
+from m j k s = m (j + k) s
+
+module _ (m : Mixed) (i : ℕ) where
+  -- the factors of the players from j on, where they play these strategies, are still to come
+  abbrev pub GiveFrom : ℕ → List ℕ → ℚ → Result ℚ Unfit → Type 0
+  GiveFrom j strategies product r = StepsGive (product_steps product (others_from m i j strategies)) (product *ℚ probability (from (own_as_one m i) j) strategies) r
+
+  -- at the first player these are all
+  pub all-left : (strategies : List ℕ) (r : Result ℚ Unfit) → GiveFrom 0 strategies one_ℚ r → StepsGive (product_steps one_ℚ (others_probabilities m i strategies)) (weight m i strategies) r
+  all-left strategies r h =
+      (let start : from (own_as_one m i) 0 ≡ own_as_one m i = λ d k s. own_as_one m i ((let e : 0 + k ≡ k = omega arith in e) d) s in
+      subst (λ v. StepsGive (product_steps one_ℚ (others_probabilities m i strategies)) v r) (one-*ℚ _ ∙ ap (λ x. probability x strategies) start) h)
+
+  -- after the last player there are none
+  pub none-left : (j : ℕ) (product : ℚ) → GiveFrom j [] product (Ok product)
+  none-left j product = (sym (*ℚ-one product), λ k d l. absurd (omega (arith, l)))
+
+  module _ (j s : ℕ) (strategies : List ℕ) where
+    shifted : later (from (own_as_one m i) j) ≡ from (own_as_one m i) (suc j)
+    shifted = λ d k t. own_as_one m i ((let e : j + suc k ≡ suc j + k = omega arith in e) d) t
+
+    factor : from (own_as_one m i) j 0 s ≡ (if j == i then one_ℚ else m j s)
+    factor = ap (λ k. own_as_one m i k s) (let e : j + 0 ≡ j = omega arith in e)
+
+    value : probability (from (own_as_one m i) j) (s ∷ strategies) ≡ (if j == i then one_ℚ else m j s) *ℚ probability (from (own_as_one m i) (suc j)) strategies
+    value = ap₂ (λ x y. x *ℚ y) factor (ap (λ x. probability x strategies) shifted)
+
+    -- the player's own strategy is passed over
+    pub own-left : (product : ℚ) (r : Result ℚ Unfit) → j ≡ i → GiveFrom (suc j) strategies product r → GiveFrom j (s ∷ strategies) product r
+    own-left product r e h = go (j == i) (Decides-eqb j i) value
+      where
+        go : (b : Bool) → Decides b (j ≡ i) → probability (from (own_as_one m i) j) (s ∷ strategies) ≡ (if b then one_ℚ else m j s) *ℚ probability (from (own_as_one m i) (suc j)) strategies
+            → StepsGive (product_steps product ((if b then [] else m j s ∷ []) ++ others_from m i (suc j) strategies)) (product *ℚ probability (from (own_as_one m i) j) (s ∷ strategies)) r
+        go true d v = subst (λ x. StepsGive (product_steps product (others_from m i (suc j) strategies)) (product *ℚ x) r) (sym (v ∙ one-*ℚ _)) h
+        go false d v = absurd (let yes = d.1 e in cc)
+
+    -- another's probability is a factor
+    pub other-left : (product q next : ℚ) (r : Result ℚ Unfit) → j ≢ i → q ≡ m j s → MulFits product q → next ≡ product *ℚ q → GiveFrom (suc j) strategies next r → GiveFrom j (s ∷ strategies) product r
+    other-left product q next r ne is fits next_is h = go (j == i) (Decides-eqb j i) value
+      where
+        there : StepsGive (product_steps (product *ℚ m j s) (others_from m i (suc j) strategies)) ((product *ℚ m j s) *ℚ probability (from (own_as_one m i) (suc j)) strategies) r
+        there = subst (λ x. GiveFrom (suc j) strategies x r) (next_is ∙ ap (λ x. product *ℚ x) is) h
+
+        go : (b : Bool) → Decides b (j ≡ i) → probability (from (own_as_one m i) j) (s ∷ strategies) ≡ (if b then one_ℚ else m j s) *ℚ probability (from (own_as_one m i) (suc j)) strategies
+            → StepsGive (product_steps product ((if b then [] else m j s ∷ []) ++ others_from m i (suc j) strategies)) (product *ℚ probability (from (own_as_one m i) j) (s ∷ strategies)) r
+        go true d v = absurd (ne (d.0 refl))
+        go false d v =
+            following-gives (unfit Mul product (m j s) ∷ []) (product_steps (product *ℚ m j s) (others_from m i (suc j) strategies)) (product *ℚ probability (from (own_as_one m i) j) (s ∷ strategies)) r
+            (one-fits (unfit Mul product (m j s)) (subst (MulFits product) is fits))
+            (subst (λ x. StepsGive (product_steps (product *ℚ m j s) (others_from m i (suc j) strategies)) x r) (*ℚ_assoc product (m j s) _ ∙ ap (λ x. product *ℚ x) (sym v)) there)
+
+    -- or the product with it is the first step that does not fit
+    pub other-unfit : (product q : ℚ) (u : Step) → j ≢ i → q ≡ m j s → u ≡ unfit Mul product q → (MulFits product q → ⊥) → GiveFrom j (s ∷ strategies) product (Err u)
+    other-unfit product q u ne is step fails = go (j == i) (Decides-eqb j i)
+      where
+        go : (b : Bool) → Decides b (j ≡ i) → IsFirstUnfit (product_steps product ((if b then [] else m j s ∷ []) ++ others_from m i (suc j) strategies)) u
+        go true d = absurd (ne (d.0 refl))
+        go false d =
+            subst (IsFirstUnfit (unfit Mul product (m j s) ∷ product_steps (product *ℚ m j s) (others_from m i (suc j) strategies))) (sym (step ∙ ap (unfit Mul product) is))
+            (first_unfit-here (unfit Mul product (m j s)) (product_steps (product *ℚ m j s) (others_from m i (suc j) strategies)) (λ fits. let back : MulFits product (m j s) = fits in fails (subst (MulFits product) (sym is) back)))
+
+-- the strategies of the players from one on, in what is left of a profile's number
+pub strategies-left : (ns : List ℕ) (j rest : ℕ) → j < length ns → profile_at (drop j ns) rest ≡ (rest % get_or ns j 0) ∷ profile_at (drop (suc j) ns) (rest / get_or ns j 0)
+strategies-left ns j rest l = ap (λ v. profile_at v rest) (drop-cons ns j 0 l)

@@ -1,0 +1,10 @@
+pub mod BehaviourPayoffs
+pub mod TableChecks
+pub mod TableLaws
+pub mod TreeBoards
+pub mod TreeScratches
+pub mod TreeSides
+pub mod TreeSteps
+pub mod TreeVerdictLaws
+pub mod TreeVerdicts
+pub mod TreeWeights

@@ -1,0 +1,113 @@
+// What a behaviour pays each player of a tree.
+ghost use Rattle.std.specs.Prelude.{◌≡◌, IfOk};
+ghost use Rattle.answers.specs.Answers.{Gives, map_ok};
+ghost use Rattle.game_theory.specs.Behaviour.{Behaviour as TreeBehaviour, payoff};
+ghost use Rattle.game_theory.specs.Lines.{listed};
+ghost use Rattle.game_theory.specs.TreeEntries.{tree_entries};
+ghost use Rattle.game_core.specs.TreeGame.{game_of_tree};
+ghost use Rattle.verdicts.specs.BehaviourPayoffs.{
+  BehaviourPayoffsAreSingle,
+  behaviour_payoffs_in,
+};
+ghost use Rattle.verdicts.specs.TreeBoards.{IsOnBoard, Reads, game_of};
+ghost use Rattle.behaviour_profile.specs.EntryStarts.{AreBehaviourEntries};
+ghost use Rattle.verdicts.specs.declared.payoffs.PayoffsStop.TheVariants as stops;
+
+use crate::trees_board::Board;
+use behaviour_profile::{Behaviour, starts_of};
+use frac128::{Frac, Memory, Unfit};
+use game_core::Tree;
+use game_core::tree_parts::stands_for_game_tree;
+use pure_payoffs::children_of_all;
+use std::alloc::{AllocFailed, Global};
+
+/// Why what a behaviour pays was not computed.
+#[derive(Clone, Copy, Debug, PartialEq, Eq)]
+pub enum PayoffsStop {
+    /// A step of a player's payoff does not fit: the first, players in order.
+    Range {
+        /// The player, from 0.
+        player: u32,
+        /// The step.
+        unfit: Unfit,
+    },
+    /// Memory ran out.
+    Memory,
+}
+
+impl From<Memory> for PayoffsStop {
+    ghost use Rattle.std.specs.Prelude.{◌≡◌};
+    ghost use Rattle.verdicts.specs.declared.payoffs.PayoffsStop.TheVariants as stops;
+
+    ghost from_gives = { λ _ e. e ≡ stops.Memory };
+
+    fn from(_memory: Memory) -> PayoffsStop {
+        PayoffsStop::Memory
+    }
+}
+
+impl<T: Drop> From<AllocFailed<T>> for PayoffsStop {
+    ghost use Rattle.std.specs.Prelude.{◌≡◌};
+    ghost use Rattle.verdicts.specs.declared.payoffs.PayoffsStop.TheVariants as stops;
+
+    ghost from_gives = { λ _ e. e ≡ stops.Memory };
+
+    fn from(_refused: AllocFailed<T>) -> PayoffsStop {
+        PayoffsStop::Memory
+    }
+}
+
+// What the behaviour of a board pays each player, in order.
+fn payoffs_on(alloc: Global, board: &Board) -> Result<Vec<Frac>, PayoffsStop>
+    requires board { IsOnBoard board.now }
+    ensures payoffs { (b : TreeBehaviour) → Reads board.now b → let t = game_of board.now in
+        IfOk result (λ payoffs. payoffs.items ≡ listed t.players (payoff t b)) }
+    ensures stop { (b : TreeBehaviour) → Reads board.now b
+        → Gives stops.Memory (behaviour_payoffs_in (game_of board.now) b)
+        (map_ok result (λ _. tt)) }
+{
+    stands_for_game_tree(board.tree);
+    let mut payoffs = Vec::new(alloc);
+    for player in 0..board.tree.players().len() as u32 {
+        match board.value(player, 0) {
+            Ok(payoff) => payoffs.push(payoff)?,
+            Err(unfit) => return Err(PayoffsStop::Range { player, unfit }),
+        }
+    }
+    Ok(payoffs)
+}
+
+/// What a behaviour pays each player of its tree, in order.
+///
+/// # Errors
+///
+/// `Range` where a step does not fit: the first, players in order. `Memory` where memory ran out.
+pub fn behaviour_payoffs(
+    alloc: Global,
+    tree: &Tree,
+    behaviour: &Behaviour,
+) -> Result<Vec<Frac>, PayoffsStop>
+    requires entries { AreBehaviourEntries tree.now behaviour.now }
+    ensures payoffs { (b : TreeBehaviour) → let t = game_of_tree tree.now in
+        behaviour.now ≡ tree_entries t b
+        → IfOk result (λ payoffs. payoffs.items ≡ listed t.players (payoff t b)) }
+    ensures stop { (b : TreeBehaviour) → let t = game_of_tree tree.now in
+        behaviour.now ≡ tree_entries t b
+        → Gives stops.Memory (behaviour_payoffs_in t b) (map_ok result (λ _. tt)) }
+{
+    stands_for_game_tree(tree);
+    let children = children_of_all(alloc, tree)?;
+    let starts = starts_of(alloc, tree)?;
+    let board = Board {
+        tree,
+        children: children.as_slice(),
+        starts: starts.as_slice(),
+        entries: behaviour.entries(),
+    };
+    payoffs_on(alloc, &board)
+}
+
+/// A behaviour pays something, or one first step does not fit, and never both.
+pub fn behaviour_payoffs_are_single()
+    ensures { BehaviourPayoffsAreSingle }
+{}

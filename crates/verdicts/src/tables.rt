@@ -1,0 +1,276 @@
+// Whether a mixed profile of a table is an equilibrium.
+ghost use Rattle.std.specs.Prelude.{◌≡◌, ◌+◌, ◌*◌, ◌<◌, ◌≤◌, ℕ, All, length, sum, slice_index, take, IfOk, IfErr, OnOk};
+ghost use Rattle.rational.specs.Rational.{◌+ℚ◌, ◌*ℚ◌};
+ghost use Rattle.game_theory.specs.Mixed.{payoff as payoff_of};
+ghost use Rattle.game_theory.specs.Profiles.{profile_at, profile_count};
+ghost use Rattle.game_core.specs.Table.{IsTable, game_of, strategy_counts};
+ghost use Rattle.frac128.specs.Steps.{IsFirstUnfit, StepFits, StepsGive};
+ghost use Rattle.best_replies.specs.Strategies.{
+  IsBestStrategy,
+  strategy_value as value_of,
+  value_below,
+  weight,
+};
+ghost use Rattle.behaviour_profile.specs.EntryTests.{mixed_of};
+ghost use Rattle.verdicts.specs.TableLaws.{TableVerdictsAreSingle, TableVerdictsFindEquilibria};
+ghost use Rattle.verdicts.specs.TableChecks.{
+  IsFound,
+  block_steps,
+  payoff_steps,
+  player_steps,
+  strategy_steps,
+  table_verdict,
+  value_steps,
+  weighed_steps,
+  weight_steps,
+};
+
+use crate::mixed::Mixed;
+use frac128::{Frac, Unfit};
+use game_core::Table;
+
+/// What a mixed profile of a table is. Players and strategies count from 0.
+#[derive(Clone, Copy, Debug, PartialEq, Eq)]
+pub enum TableVerdict {
+    /// No player has a strategy that pays more.
+    Equilibrium,
+    /// The first player who has one.
+    Better {
+        /// The player.
+        player: u32,
+        /// What the profile pays the player.
+        payoff: Frac,
+        /// What the player's best strategy pays against the others.
+        best: Frac,
+        /// That strategy, the first of the best.
+        reply: u32,
+    },
+    /// The first step that does not fit.
+    Range {
+        /// The step.
+        unfit: Unfit,
+    },
+}
+
+// A strategy, and what it is worth.
+#[derive(Clone, Copy)]
+struct Worth {
+    strategy: u32,
+    value: Frac,
+}
+
+// A strategy that is worth more than the payoff.
+#[derive(Clone, Copy)]
+struct BetterReply {
+    payoff: Frac,
+    best: Frac,
+    reply: u32,
+}
+
+// Where a player's entries begin.
+fn first_entry(table: &Table, player: usize) -> usize
+    requires { player < length table.now.players }
+    ensures { result ≡ sum (take player (strategy_counts table.now)) }
+{
+    let mut first = 0;
+    for earlier in 0..player {
+        first += table.strategy_count(earlier);
+    }
+    first
+}
+
+// Adds the product of a weight and a number to a sum; a weight of 0 adds nothing.
+fn add_weighed(sum: Frac, weight: Frac, number: Frac) -> Result<Frac, Unfit>
+    ensures { StepsGive (weighed_steps weight number sum) (sum +ℚ (weight *ℚ number)) result }
+{
+    if weight.is_zero() {
+        return Ok(sum);
+    }
+    let product = weight.mul(number)?;
+    sum.add(product)
+}
+
+// The product of the probabilities with which the others play a profile.
+fn others_weight(table: &Table, mixed: &Mixed, player: usize, profile: usize) -> Result<Frac, Unfit>
+    requires { length mixed.now ≡ sum (strategy_counts table.now) }
+    ensures { let counts = strategy_counts table.now in
+        let m = mixed_of counts mixed.now in
+        let strategies = profile_at counts profile in
+        StepsGive (weight_steps m player strategies) (weight m player strategies) result }
+{
+    let entries = mixed.entries();
+    let mut product = Frac::one();
+    let mut first = 0;
+    let mut rest = profile;
+    for other in 0..table.players().len() {
+        let count = table.strategy_count(other);
+        if other != player {
+            product = product.mul(entries[first + rest % count])?;
+        }
+        first += count;
+        rest /= count;
+    }
+    Ok(product)
+}
+
+// Adds what a strategy is worth at the profiles from one on to a sum, where it is played in each.
+fn add_profiles(
+    table: &Table,
+    mixed: &Mixed,
+    player: usize,
+    strategy: usize,
+    so_far: Frac,
+    first: usize,
+    count: usize,
+) -> Result<Frac, Unfit>
+    requires entries { length mixed.now ≡ sum (strategy_counts table.now) }
+    requires player { player < length table.now.players }
+    requires valid { IsTable table.now }
+    requires profiles { first + count ≤ profile_count (strategy_counts table.now) }
+    requires played { (k : ℕ) → first ≤ k → k < first + count
+        → slice_index (profile_at (strategy_counts table.now) k) player ≡ strategy }
+    requires so_far { let m = mixed_of (strategy_counts table.now) mixed.now in
+        so_far ≡ value_below (game_of table.now) m player strategy first }
+    ensures { let m = mixed_of (strategy_counts table.now) mixed.now in
+        let g = game_of table.now in
+        let value = value_below g m player strategy (first + count) in
+        StepsGive (block_steps g m player strategy first count) value result }
+{
+    let mut value = so_far;
+    for profile in first..first + count {
+        let weight = others_weight(table, mixed, player, profile)?;
+        value = add_weighed(value, weight, table.payoff_at(profile, player))?;
+    }
+    Ok(value)
+}
+
+// What a strategy is worth, by the blocks of profiles in which it is played, in table order.
+fn strategy_value(
+    table: &Table,
+    mixed: &Mixed,
+    player: usize,
+    strategy: usize,
+) -> Result<Frac, Unfit>
+    requires entries { length mixed.now ≡ sum (strategy_counts table.now) }
+    requires player { player < length table.now.players }
+    requires strategy { strategy < slice_index (strategy_counts table.now) player }
+    ensures { let m = mixed_of (strategy_counts table.now) mixed.now in
+        let g = game_of table.now in
+        StepsGive (strategy_steps g m player strategy) (value_of g m player strategy) result }
+{
+    let stride = table.stride(player);
+    let profiles = table.payoffs().len() / table.players().len();
+    let mut value = Frac::zero();
+    let mut first = strategy * stride;
+    while first < profiles {
+        value = add_profiles(table, mixed, player, strategy, value, first, stride)?;
+        first += stride * table.strategy_count(player);
+    }
+    Ok(value)
+}
+
+// The first of a player's best strategies.
+fn best_strategy(table: &Table, mixed: &Mixed, player: usize) -> Result<Worth, Unfit>
+    requires entries { length mixed.now ≡ sum (strategy_counts table.now) }
+    requires player { player < length table.now.players }
+    ensures best { let m = mixed_of (strategy_counts table.now) mixed.now in
+        IfOk result (λ best. IsBestStrategy (game_of table.now) m player best.strategy) }
+    ensures value { let m = mixed_of (strategy_counts table.now) mixed.now in
+        IfOk result (λ best. best.value ≡ value_of (game_of table.now) m player best.strategy) }
+    ensures fits { let m = mixed_of (strategy_counts table.now) mixed.now in
+        OnOk result (All StepFits (value_steps (game_of table.now) m player)) }
+    ensures unfit { let m = mixed_of (strategy_counts table.now) mixed.now in
+        IfErr result (IsFirstUnfit (value_steps (game_of table.now) m player)) }
+{
+    let count = table.strategy_count(player);
+    let mut best = strategy_value(table, mixed, player, 0)?;
+    let mut reply = 0;
+    for strategy in 1..count {
+        let value = strategy_value(table, mixed, player, strategy)?;
+        if best.is_less(value) {
+            best = value;
+            reply = strategy as u32;
+        }
+    }
+    Ok(Worth {
+        strategy: reply,
+        value: best,
+    })
+}
+
+// What a profile pays a player. Each strategy's value is computed again, since there is no room in
+// which to keep it; all its steps are known to fit.
+fn payoff(table: &Table, mixed: &Mixed, player: usize) -> Result<Frac, Unfit>
+    requires entries { length mixed.now ≡ sum (strategy_counts table.now) }
+    requires player { player < length table.now.players }
+    requires fit { let m = mixed_of (strategy_counts table.now) mixed.now in
+        All StepFits (value_steps (game_of table.now) m player) }
+    ensures { let m = mixed_of (strategy_counts table.now) mixed.now in
+        let g = game_of table.now in
+        StepsGive (payoff_steps g m player) (payoff_of g m player) result }
+{
+    let first = first_entry(table, player);
+    let mut payoff = Frac::zero();
+    for strategy in 0..table.strategy_count(player) {
+        let probability = mixed.entries()[first + strategy];
+        let value = strategy_value(table, mixed, player, strategy)?;
+        payoff = add_weighed(payoff, probability, value)?;
+    }
+    Ok(payoff)
+}
+
+// A player's best strategy, if it is worth more than the payoff.
+fn better_reply(table: &Table, mixed: &Mixed, player: usize) -> Result<Option<BetterReply>, Unfit>
+    requires entries { length mixed.now ≡ sum (strategy_counts table.now) }
+    requires player { player < length table.now.players }
+    ensures found { let m = mixed_of (strategy_counts table.now) mixed.now in
+        IfOk result (IsFound (game_of table.now) m player) }
+    ensures unfit { let m = mixed_of (strategy_counts table.now) mixed.now in
+        IfErr result (IsFirstUnfit (player_steps (game_of table.now) m player)) }
+{
+    let best = best_strategy(table, mixed, player)?;
+    let payoff = payoff(table, mixed, player)?;
+    if payoff.is_less(best.value) {
+        Ok(Some(BetterReply {
+            payoff,
+            best: best.value,
+            reply: best.strategy,
+        }))
+    } else {
+        Ok(None)
+    }
+}
+
+/// Whether a mixed profile of a table is an equilibrium: player by player, what each strategy is
+/// worth against the others is compared with what the profile pays. Takes no memory.
+pub fn check_table(table: &Table, mixed: &Mixed) -> TableVerdict
+    requires { length mixed.now ≡ sum (strategy_counts table.now) }
+    ensures { table_verdict table.now mixed.now result }
+{
+    for player in 0..table.players().len() {
+        match better_reply(table, mixed, player) {
+            Ok(None) => {}
+            Ok(Some(better)) => {
+                return TableVerdict::Better {
+                    player: player as u32,
+                    payoff: better.payoff,
+                    best: better.best,
+                    reply: better.reply,
+                };
+            }
+            Err(unfit) => return TableVerdict::Range { unfit },
+        }
+    }
+    TableVerdict::Equilibrium
+}
+
+/// A table and the entries of a profile have at most one verdict.
+pub fn table_verdicts_are_single()
+    ensures { TableVerdictsAreSingle }
+{}
+
+/// Verdicts of tables tell equilibria. A better strategy is the first player's that has one, and
+/// the first of the best.
+pub fn table_verdicts_find_equilibria()
+    ensures { TableVerdictsFindEquilibria }
+{}

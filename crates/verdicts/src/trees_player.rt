@@ -1,0 +1,92 @@
+// The check of one player.
+ghost use Rattle.std.specs.Prelude.{◌≡◌, ◌<◌, ◌≤◌, ℕ, All, MatchResult, length, map, slice_index, take};
+ghost use Rattle.game_theory.specs.Behaviour.{Behaviour, payoff};
+ghost use Rattle.game_theory.specs.OwnSets.{own_sets};
+ghost use Rattle.game_core.specs.TreeGame.{game_of_tree};
+ghost use Rattle.best_replies.specs.Order.{AscendOnPaths};
+ghost use Rattle.best_replies.specs.Replies.{reply_value, AreBestChoices};
+ghost use Rattle.frac128.specs.Steps.{StepFits, IsFirstUnfit};
+ghost use Rattle.verdicts.specs.TreeBoards.{IsOnBoard, Reads, game_of};
+ghost use Rattle.verdicts.specs.TreeSides.{AreChosen};
+ghost use Rattle.verdicts.specs.TreeSteps.{best_steps, player_steps};
+
+use crate::trees_board::Board;
+use crate::trees_side::Side;
+use frac128::{Frac, Unfit};
+use game_core::Tree;
+use game_core::tree_parts::is_own;
+
+// What a player's best choices pay; writes these at the player's sets.
+fn best_payoff(
+    board: &Board,
+    player: u32,
+    weights: &mut [Frac],
+    choices: &mut [u32],
+    values: &mut [Frac],
+) -> Result<Frac, Unfit>
+    requires board { IsOnBoard board.now }
+    requires player { player < length board.now.tree.now.players }
+    requires weights { length weights.old ≡ length board.now.tree.now.nodes }
+    requires choices { length choices.old ≡ length board.now.tree.now.sets }
+    requires values { length values.old ≡ length board.now.tree.now.nodes }
+    ensures { (b : Behaviour) (choice : ℕ → ℕ) → let t = game_of board.now in
+        Reads board.now b → AscendOnPaths t player → AreBestChoices t b player choice
+        → MatchResult result
+        (λ best. (best ≡ reply_value t b player choice 0)
+        × All StepFits (best_steps t b player choice) × AreChosen t player choice choices.new)
+        (IsFirstUnfit (best_steps t b player choice)) }
+{
+    board.set_weights(player, weights)?;
+    let side = Side {
+        tree: board.tree,
+        children: board.children,
+        weights,
+        player,
+    };
+    choices.fill(0);
+    side.decide_all(choices, values)?;
+    side.value(choices, values, 0)
+}
+
+// What a behaviour pays a player, and what the best choices pay; writes these at the player's sets.
+pub(crate) fn check_player(
+    board: &Board,
+    player: u32,
+    weights: &mut [Frac],
+    choices: &mut [u32],
+    values: &mut [Frac],
+) -> Result<(Frac, Frac), Unfit>
+    requires board { IsOnBoard board.now }
+    requires player { player < length board.now.tree.now.players }
+    requires weights { length weights.old ≡ length board.now.tree.now.nodes }
+    requires choices { length choices.old ≡ length board.now.tree.now.sets }
+    requires values { length values.old ≡ length board.now.tree.now.nodes }
+    ensures { (b : Behaviour) (choice : ℕ → ℕ) → let t = game_of board.now in
+        Reads board.now b → AscendOnPaths t player → AreBestChoices t b player choice
+        → MatchResult result
+        (λ pays. (pays.0 ≡ payoff t b player) × (pays.1 ≡ reply_value t b player choice 0)
+        × All StepFits (player_steps t b player choice) × AreChosen t player choice choices.new)
+        (IsFirstUnfit (player_steps t b player choice)) }
+{
+    let payoff = board.value(player, 0)?;
+    let best = best_payoff(board, player, weights, choices, values)?;
+    Ok((payoff, best))
+}
+
+// Writes the choices at a player's own sets in order, and tells how many.
+pub(crate) fn write_reply(tree: &Tree, player: u32, choices: &[u32], reply: &mut [u32]) -> usize
+    requires choices { length choices.now ≡ length tree.now.sets }
+    requires reply { length reply.old ≡ length tree.now.sets }
+    ensures within { result ≤ length tree.now.sets }
+    ensures reply { take result reply.new
+        ≡ map (slice_index choices.now) (own_sets (game_of_tree tree.now) player) }
+{
+    let mut count = 0;
+    for set in 0..tree.sets().len() {
+        if is_own(tree, set, player) {
+            reply[count] = choices[set];
+            count += 1;
+        }
+    }
+    count
+}

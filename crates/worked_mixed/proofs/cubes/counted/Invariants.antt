@@ -1,4 +1,0 @@
-use Rattle.worked_mixed.proofs.cubes.counted.Given as goal
-
-abbrev pub ghosts-counts : goal.ghosts-counts
-ghosts-counts g a = record { name = a.blank.name; parts = a.blank.parts }
