@@ -1,5 +1,5 @@
 -- The rows of basic variables, and the values of variables in a basic solution
-use Rattle.std.proofs.Common.{ℕ, suc, List, [], ◌∷◌, ◌++◌, ◌+◌, ◌-◌, length, get_or, set, replicate, take, ap, ap₂, ◌<◌, ◌≤◌, ◌≡◌, ◌≢◌, ◌⊎◌, inl, inr, sym, ◌∙◌, subst, subst₂, arith, eq-or-lt_of_le, Option, Some, None}
+use Rattle.std.proofs.Common.{ℕ, suc, List, [], ◌∷◌, ◌++◌, ◌+◌, ◌-◌, length, get_or, set, replicate, take, ap, ap₂, ◌<◌, ◌≤◌, ◌≡◌, ◌≢◌, ◌⊎◌, inl, inr, sym, ◌∙◌, subst, subst₂, arith, eq-or-lt_of_le, Option, Some, None, MatchOption}
 use Rattle.std.proofs.lemmas.Bool.{cases_eq}
 use Rattle.std.proofs.lemmas.List.{map_more, get_or-replicate, get_or-set_other, length-replicate, length-set}
 use Rattle.std.proofs.lemmas.Grind.{get_or-set_at}
@@ -7,12 +7,21 @@ use Rattle.std.proofs.lemmas.List.Elements.{All-weaker}
 use Rattle.rational.specs.Rational.{ℚ}
 use Rattle.lex_tableau.specs.Rows.{WholeTableau, tableau}
 use Rattle.linear_systems.specs.Rows.{basic_solution}
-use Rattle.basis_enum.specs.Marks.{AreRowsTo, AreUpTo, IsRowTo, values_of}
+use Rattle.basis_enum.specs.Marks.{AreRowsOf, AreUpTo, IsRowOf, values_of}
 
 pub up_to_128 : (n : ℕ) (variables : List ℕ) → n ≤ 128 → AreUpTo n variables → AreUpTo 128 variables
 up_to_128 n variables few h = All-weaker (λ v. (0 < v) × (v ≤ n)) (λ v. (0 < v) × (v ≤ 128)) (λ v b. (b.0, omega (arith, few, b.1))) variables h
 
 -- ---- row by row
+-- the row of the first n in which variable v is basic, or none
+abbrev pub IsRowTo : WholeTableau → ℕ → ℕ → Option ℕ → Type 0
+IsRowTo t n v o = MatchOption o ((i : ℕ) → i < n → get_or t.basics i 0 ≢ v) (λ row. (row < n) × (get_or t.basics row 0 ≡ v))
+
+-- that of each variable up to 128, for variable v at place v - 1
+pub record AreRowsTo (t : WholeTableau) (n : ℕ) (rows : List (Option ℕ)) : Type 0 where
+  pub size : length rows ≡ 128
+  pub each : (l : ℕ) → l < 128 → IsRowTo t n (suc l) (get_or rows l None)
+
 pub rows_start : (t : WholeTableau) (rows : List (Option ℕ)) → rows ≡ replicate 128 None → AreRowsTo t 0 rows
 rows_start t rows e =
     record {
@@ -44,10 +53,14 @@ rows_more t n v old new is above most e h =
         subst (IsRowTo t (n + 1) (suc l)) (sym (ap (λ xs. get_or xs l None) e ∙ get_or-set_other old (v - 1) l (Some n) None f))
         (later l (get_or old l None) f (h.each l k))
 
--- the row of a variable, after all rows
-pub row_found : (t : WholeTableau) (rows : List (Option ℕ)) (v : ℕ) (r : Option ℕ) → AreRowsTo t (length t.basics) rows → 0 < v → v ≤ 128 → get_or rows (v - 1) None ≡ r → IsRowTo t (length t.basics) v r
+-- after all rows
+pub rows_all : (t : WholeTableau) (n : ℕ) (rows : List (Option ℕ)) → n ≡ length t.basics → AreRowsTo t n rows → AreRowsOf t rows
+rows_all t n rows e h = record { size = h.size; each = λ l k. subst (λ m. IsRowTo t m (suc l) (get_or rows l None)) e (h.each l k) }
+
+-- the row of a variable
+pub row_found : (t : WholeTableau) (rows : List (Option ℕ)) (v : ℕ) (r : Option ℕ) → AreRowsOf t rows → 0 < v → v ≤ 128 → get_or rows (v - 1) None ≡ r → IsRowOf t v r
 row_found t rows v r h above most e =
-    subst₂ (IsRowTo t (length t.basics)) (let back : suc (v - 1) ≡ v = omega arith in back) e (h.each (v - 1) (omega arith))
+    subst₂ (IsRowOf t) (let back : suc (v - 1) ≡ v = omega arith in back) e (h.each (v - 1) (omega arith))
 
 -- ---- one variable more
 pub value_more : (t : WholeTableau) (xs : List ℕ) (i : ℕ) (q : ℚ) (old new : List ℚ)

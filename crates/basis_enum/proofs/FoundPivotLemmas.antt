@@ -12,7 +12,7 @@ use Rattle.linear_systems.proofs.LexRowLemmas.{lex_row_once}
 use Rattle.std.proofs.lemmas.List.Elements.{Contains-append_left, Contains-append_right, Contains-append_cases}
 use Rattle.lists.proofs.ElementLemmas.{first_in, in_cases}
 use Rattle.basis_enum.specs.declared.found_pivots.FoundPivot.{FoundPivot}
-use Rattle.basis_enum.specs.Found.{IsFound, HasNone, AreFound}
+use Rattle.basis_enum.specs.Found.{IsFound, LeadsBack, AreFound, HasFound}
 
 pub leaving_bounds : (t : WholeTableau) (r : ℕ) → HaveDigits t → r < length t.basics → (0 < get_or t.basics r 0) × (get_or t.basics r 0 ≤ 128)
 leaving_bounds t r d h = d _ (in_row r h refl)
@@ -28,18 +28,29 @@ target_fits t r c basis leaving entering h d hr hc p q e =
     let m : digit entering ≡ digit (get_or t.nonbasics c 0) = ap digit e in
     omega arith
 
-pub leads_back : (t : WholeTableau) (known : List ℕ) (c r : ℕ) → IsLeavingRow t c r → Contains known (neighbour_of t r c) → HasNone t known c
+pub leads_back : (t : WholeTableau) (known : List ℕ) (c r : ℕ) → IsLeavingRow t c r → Contains known (neighbour_of t r c) → LeadsBack t known c
 leads_back t known c r h k = record { leads_back = λ q x. subst (λ n. Contains known (neighbour_of t n c)) (lex_row_once t.rated (variable_at t.starts) (tableau t) c r q h x) k }
 
 -- a column without a positive entry has no lexicographic row
-pub no_row : (t : WholeTableau) (known : List ℕ) (c : ℕ) → ((i : ℕ) → i < t.rated → (tableau t).cell i c ≤ℚ zero_ℚ) → HasNone t known c
+pub no_row : (t : WholeTableau) (known : List ℕ) (c : ℕ) → ((i : ℕ) → i < t.rated → (tableau t).cell i c ≤ℚ zero_ℚ) → LeadsBack t known c
 no_row t known c h = record { leads_back = λ r x. absurd (not_lt_of_le _ _ (h r x.within) x.positive) }
 
 -- ---- column by column
-pub found_start : (t : WholeTableau) (place : ℕ) (known : List ℕ) → AreFound t place known 0 []
+-- a column below the bound, with such a pivot
+pub record IsFoundBelow (t : WholeTableau) (place : ℕ) (known : List ℕ) (bound : ℕ) (p : FoundPivot) : Type 0 where
+  pub column : ℕ
+  pub within : column < bound
+  pub found : IsFound t place known column p
+
+-- of each column below the bound the pivot is there, or leads to a known basis
+pub record AreFoundBelow (t : WholeTableau) (place : ℕ) (known : List ℕ) (bound : ℕ) (found : List FoundPivot) : Type 0 where
+  pub each : (p : FoundPivot) → Contains found p → IsFoundBelow t place known bound p
+  pub all : (column r : ℕ) → column < bound → IsLeavingRow t column r → ¬ (Contains known (neighbour_of t r column)) → HasFound t place known found column
+
+pub found_start : (t : WholeTableau) (place : ℕ) (known : List ℕ) → AreFoundBelow t place known 0 []
 found_start t place known = record { each = λ m c. absurd (omega (arith, c.1)); all = λ column r h. absurd (omega arith) }
 
-pub found_none : (t : WholeTableau) (place : ℕ) (known : List ℕ) (n : ℕ) (found : List FoundPivot) → AreFound t place known n found → HasNone t known n → AreFound t place known (n + 1) found
+pub found_none : (t : WholeTableau) (place : ℕ) (known : List ℕ) (n : ℕ) (found : List FoundPivot) → AreFoundBelow t place known n found → LeadsBack t known n → AreFoundBelow t place known (n + 1) found
 found_none t place known n found f none =
     record {
       each = λ m c. let z = f.each m c in record { column = z.column; within = (let w : z.column < n = z.within in omega arith); found = z.found };
@@ -49,7 +60,7 @@ found_none t place known n found f none =
       ];
     }
 
-pub found_push : (t : WholeTableau) (place : ℕ) (known : List ℕ) (n : ℕ) (found : List FoundPivot) (m : FoundPivot) → AreFound t place known n found → IsFound t place known n m → AreFound t place known (n + 1) (found ++ m ∷ [])
+pub found_push : (t : WholeTableau) (place : ℕ) (known : List ℕ) (n : ℕ) (found : List FoundPivot) (m : FoundPivot) → AreFoundBelow t place known n found → IsFound t place known n m → AreFoundBelow t place known (n + 1) (found ++ m ∷ [])
 found_push t place known n found m f h =
     record {
       each = λ k c. elim (Contains-append_cases found (m ∷ []) k c) [
@@ -60,4 +71,12 @@ found_push t place known n found m f h =
         | inl e ↦ (m, Contains-append_right found (m ∷ []) m (first_in m []), subst (λ k. IsFound t place known k m) (sym e) h)
         | inr l ↦ (let z = f.all column r l x new in (z.0, Contains-append_left found (m ∷ []) z.0 z.1, z.2))
       ];
+    }
+
+-- after all columns
+pub found_all : (t : WholeTableau) (place : ℕ) (known : List ℕ) (n : ℕ) (found : List FoundPivot) → n ≡ length t.nonbasics → AreFoundBelow t place known n found → AreFound t place known found
+found_all t place known n found e f =
+    record {
+      each = λ m c. let z = f.each m c in record { column = z.column; within = (let w : z.column < n = z.within in omega arith); found = z.found };
+      all = λ column r h x new. f.all column r (omega arith) x new;
     }

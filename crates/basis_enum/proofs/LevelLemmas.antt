@@ -5,14 +5,14 @@ use Rattle.std.proofs.lemmas.List.{get_or_default, length-append}
 use Rattle.lists.proofs.ElementLemmas.{in_cases}
 use Rattle.lex_tableau.specs.Rows.{WholeTableau, IsTableau}
 use Rattle.lex_tableau.specs.Starts.{LinearSystem}
-use Rattle.lex_tableau.specs.StartStops.{IsStarted}
+use Rattle.lex_tableau.specs.StartStops.{IsStartTableau}
 use Rattle.basis_enum.specs.Levels.{Levels, Pivot, AreNextPivots, IsNextLevel, no_tableau, basis_count, most_bases, first_level}
 use Rattle.basis_enum.specs.Reached.{level_of, next_level}
 
 -- level 0
 pub record IsFirst (s : LinearSystem) (l : Levels) : Type 0 where
   pub start : WholeTableau
-  pub started : IsStarted s start
+  pub started : IsStartTableau s start
   pub before : l.before ≡ []
   pub level : l.level ≡ start ∷ []
 

@@ -12,7 +12,7 @@ use Rattle.lex_tableau.specs.Ratio.{IsLeavingRow}
 use Rattle.lists.proofs.AscendingNumberLemmas.{once_in}
 use Rattle.lists.proofs.ElementLemmas.{mapped, first_in, rest_in, in_cases}
 use Rattle.basis_enum.specs.declared.found_pivots.FoundPivot.{FoundPivot}
-use Rattle.basis_enum.specs.Found.{IsFoundBelow, AreFound, HasAllFound, IsFoundIn, AreFoundIn, AreReady, AreKnown}
+use Rattle.basis_enum.specs.Found.{IsFoundFrom, AreFound, HasAllFound, IsFoundIn, AreFoundIn, AreReady, AreKnown}
 use Rattle.basis_enum.proofs.FoundPivotLemmas.{entering_bounds}
 use Rattle.basis_enum.specs.Next.{target_of, order_of, pivot_of, AreSmall, IsNextOf, AreNewPivots}
 use Rattle.linear_systems.proofs.LexRowLemmas.{lex_row_once}
@@ -29,12 +29,12 @@ pub found_in_start : (known : List ℕ) → AreFoundIn [] known []
 found_in_start known = record { each = λ m c. absurd (omega (arith, c.1)); all = λ place h. absurd (omega arith) }
 
 -- one more tableau, and its pivots
-pub found_in_more : (level : List WholeTableau) (known : List ℕ) (found more : List FoundPivot) (t : WholeTableau) → AreFoundIn level known found → AreFound t (length level) known (length t.nonbasics) more → AreFoundIn (level ++ t ∷ []) known (found ++ more)
+pub found_in_more : (level : List WholeTableau) (known : List ℕ) (found more : List FoundPivot) (t : WholeTableau) → AreFoundIn level known found → AreFound t (length level) known more → AreFoundIn (level ++ t ∷ []) known (found ++ more)
 found_in_more level known found more t f g =
     record {
       each = λ m c. elim (Contains-append_cases found more m c) [
-        | inl a ↦ (let z = f.each m a in record { place = z.place; within = (let w : z.place < length level = z.within in omega (arith, size)); below = subst (λ u. IsFoundBelow u z.place known (length u.nonbasics) m) (sym (get_or_append_left level (t ∷ []) no_tableau z.place z.within)) z.below })
-        | inr b ↦ record { place = length level; within = omega (arith, size); below = subst (λ u. IsFoundBelow u (length level) known (length u.nonbasics) m) (sym last) (g.each m b) }
+        | inl a ↦ (let z = f.each m a in record { place = z.place; within = (let w : z.place < length level = z.within in omega (arith, size)); from_there = subst (λ u. IsFoundFrom u z.place known m) (sym (get_or_append_left level (t ∷ []) no_tableau z.place z.within)) z.from_there })
+        | inr b ↦ record { place = length level; within = omega (arith, size); from_there = subst (λ u. IsFoundFrom u (length level) known m) (sym last) (g.each m b) }
       ];
       all = λ place h. elim (eq-or-lt_of_le (let l : place ≤ length level = omega (arith, size, h) in l)) [
         | inr l ↦ subst (λ u. HasAllFound u place known (found ++ more)) (sym (get_or_append_left level (t ∷ []) no_tableau place l)) (λ column r k x new. let z = f.all place l column r k x new in (z.0, Contains-append_left found more z.0 z.1, z.2))
@@ -48,18 +48,18 @@ found_in_more level known found more t f g =
     last : get_or (level ++ t ∷ []) (length level) no_tableau ≡ t
     last = get_or-append_seam level t [] no_tableau
 
-pub found_in_new : (level new : List WholeTableau) (known : List ℕ) (found more all : List FoundPivot) (t : WholeTableau) (n : ℕ) → length level ≡ n → new ≡ level ++ t ∷ [] → all ≡ found ++ more → AreFoundIn level known found → AreFound t n known (length t.nonbasics) more → AreFoundIn new known all
-found_in_new level new known found more all t n size pushed added f g = subst₂ (λ l a. AreFoundIn l known a) (sym pushed) (sym added) (found_in_more level known found more t f (subst (λ n. AreFound t n known (length t.nonbasics) more) (sym size) g))
+pub found_in_new : (level new : List WholeTableau) (known : List ℕ) (found more all : List FoundPivot) (t : WholeTableau) (n : ℕ) → length level ≡ n → new ≡ level ++ t ∷ [] → all ≡ found ++ more → AreFoundIn level known found → AreFound t n known more → AreFoundIn new known all
+found_in_new level new known found more all t n size pushed added f g = subst₂ (λ l a. AreFoundIn l known a) (sym pushed) (sym added) (found_in_more level known found more t f (subst (λ n. AreFound t n known more) (sym size) g))
 
 -- places and variables are numbers of 32 bits
 pub found_small : (level : List WholeTableau) (known : List ℕ) (found : List FoundPivot) → AreReady level → length level < 2 ^ 32 → AreFoundIn level known found → AreSmall found
 found_small level known found ready few f m c =
     let z = f.each m c in
     let w : z.place < length level = z.within in
-    let p : m.parent ≡ z.place = z.below.found.parent in
-    let b = entering_bounds (get_or level z.place no_tableau) z.below.column (ready z.place z.within).digits z.below.within in
-    let most : get_or (get_or level z.place no_tableau).nonbasics z.below.column 0 ≤ 128 = b.1 in
-    let e : m.entering ≡ get_or (get_or level z.place no_tableau).nonbasics z.below.column 0 = z.below.found.entering in
+    let p : m.parent ≡ z.place = z.from_there.found.parent in
+    let b = entering_bounds (get_or level z.place no_tableau) z.from_there.column (ready z.place z.within).digits z.from_there.within in
+    let most : get_or (get_or level z.place no_tableau).nonbasics z.from_there.column 0 ≤ 128 = b.1 in
+    let e : m.entering ≡ get_or (get_or level z.place no_tableau).nonbasics z.from_there.column 0 = z.from_there.found.entering in
     (omega arith, omega arith)
 
 pub new_pivots_are : (level : List WholeTableau) (known : List ℕ) (found next : List FoundPivot) → AreReady level → length level < 2 ^ 32 → AreFoundIn level known found → IsNextOf found next → AreNewPivots level known next
@@ -69,16 +69,16 @@ new_pivots_are level known found next ready few f n = record { found = found; al
 pub pivot_is : (level : List WholeTableau) (known : List ℕ) (m : FoundPivot) → IsFoundIn level known m → IsPivot level (pivot_of m)
 pivot_is level known m f =
     record {
-      parent = subst (λ p. p < length level) (sym f.below.found.parent) f.within;
-      column = subst (λ p. m.column < length (get_or level p no_tableau).nonbasics) (sym f.below.found.parent) (subst (λ c. c < length (get_or level f.place no_tableau).nonbasics) (sym f.below.found.column) f.below.within);
-      row = subst (λ p. IsLeavingRow (get_or level p no_tableau) m.column m.row) (sym f.below.found.parent) (subst (λ c. IsLeavingRow (get_or level f.place no_tableau) c m.row) (sym f.below.found.column) f.below.found.row);
+      parent = subst (λ p. p < length level) (sym f.from_there.found.parent) f.within;
+      column = subst (λ p. m.column < length (get_or level p no_tableau).nonbasics) (sym f.from_there.found.parent) (subst (λ c. c < length (get_or level f.place no_tableau).nonbasics) (sym f.from_there.found.column) f.from_there.within);
+      row = subst (λ p. IsLeavingRow (get_or level p no_tableau) m.column m.row) (sym f.from_there.found.parent) (subst (λ c. IsLeavingRow (get_or level f.place no_tableau) c m.row) (sym f.from_there.found.column) f.from_there.found.row);
     }
 
 pub target_is_there : (level : List WholeTableau) (known : List ℕ) (m : FoundPivot) → IsFoundIn level known m → m.target ≡ target level (pivot_of m)
-target_is_there level known m f = f.below.found.target ∙ ap₂ (λ p c. neighbour_of (get_or level p no_tableau) m.row c) (sym f.below.found.parent) (sym f.below.found.column)
+target_is_there level known m f = f.from_there.found.target ∙ ap₂ (λ p c. neighbour_of (get_or level p no_tableau) m.row c) (sym f.from_there.found.parent) (sym f.from_there.found.column)
 
 pub entering_is : (level : List WholeTableau) (known : List ℕ) (m : FoundPivot) → IsFoundIn level known m → m.entering ≡ entering level (pivot_of m)
-entering_is level known m f = f.below.found.entering ∙ ap₂ (λ p c. get_or (get_or level p no_tableau).nonbasics c 0) (sym f.below.found.parent) (sym f.below.found.column)
+entering_is level known m f = f.from_there.found.entering ∙ ap₂ (λ p c. get_or (get_or level p no_tableau).nonbasics c 0) (sym f.from_there.found.parent) (sym f.from_there.found.column)
 
 -- it is the parent and the column that count
 earlier_too : (level : List WholeTableau) (k j m : Pivot) → k.parent ≡ j.parent → k.column ≡ j.column → IsEarlierPivot level j m → IsEarlierPivot level k m
@@ -116,7 +116,7 @@ next_are l known found next k small f n = record { each = each; new = new; ascen
     each m c = let z = found_of next m c in subst (IsPivot l.level) z.2 (pivot_is l.level known z.0 (of z.0 z.1))
 
     new : (m : Pivot) → Contains (map pivot_of next) m → IsNew l (target l.level m)
-    new m c = let z = found_of next m c in subst (λ m. IsNew l (target l.level m)) z.2 (λ b. (of z.0 z.1).below.found.new (subst (Contains known) (sym (target_is_there l.level known z.0 (of z.0 z.1))) (k.all _ b)))
+    new m c = let z = found_of next m c in subst (λ m. IsNew l (target l.level m)) z.2 (λ b. (of z.0 z.1).from_there.found.new (subst (Contains known) (sym (target_is_there l.level known z.0 (of z.0 z.1))) (k.all _ b)))
 
     -- a pivot to a new basis is found, and one to the same basis is there that does not come later
     there : (m : Pivot) → IsPivot l.level m → IsNew l (target l.level m) → (x : FoundPivot) × (y : FoundPivot) × Contains found x × Contains next y × (y.target ≡ target l.level m) × (order_of y ≤ order_of x) × (x.parent ≡ m.parent) × (x.column ≡ m.column)

@@ -15,7 +15,7 @@ use Rattle.frac128.proofs.FirstUnfitLemmas.{first_unfit_here}
 use Rattle.basis_enum.specs.Levels.{Levels, Pivot, no_pivot, no_tableau, parent_of, AreNextPivots, IsAfterPivot, IsNextLevel, basis_count, most_bases, steps_of}
 use Rattle.basis_enum.specs.Bases.{IsAscendingListOf}
 use Rattle.basis_enum.specs.Reached.{IsUnfitPivot, next_level}
-use Rattle.basis_enum.specs.declared.stop.EnumStop.TheVariants.{Range}
+use Rattle.basis_enum.specs.declared.stop.EnumerationStop.TheVariants.{Range}
 use Rattle.basis_enum.specs.declared.children.ChildStop.{ChildStop}
 use Rattle.basis_enum.specs.declared.children.ChildStop.TheVariants as stops
 use Rattle.basis_enum.specs.declared.children.Expansion.{Expansion}

@@ -16,8 +16,8 @@ use Rattle.lex_tableau.proofs.SystemLemmas.{start_in-single}
 use Rattle.basis_enum.specs.Bases.{IsAscendingListOf}
 use Rattle.basis_enum.specs.Levels.{Levels, Pivot, AreNextPivots, IsAfterPivot, IsNextLevel, no_pivot, no_tableau, parent_of, entering, steps_of, basis_count, most_bases, first_level}
 use Rattle.basis_enum.specs.Reached.{AreReached, IsUnfitPivot, ReachedAreSingle, bases_within, level_of, next_level, next_pivots, pivots_fit, told_start}
-use Rattle.basis_enum.specs.declared.stop.EnumStop.{EnumStop}
-use Rattle.basis_enum.specs.declared.stop.EnumStop.TheVariants.{Range, TooLarge}
+use Rattle.basis_enum.specs.declared.stop.EnumerationStop.{EnumerationStop}
+use Rattle.basis_enum.specs.declared.stop.EnumerationStop.TheVariants.{Range, TooLarge}
 use Rattle.lists.proofs.AscendingNumberLemmas.{increasing_same}
 use Rattle.basis_enum.proofs.LevelLemmas.{level_valid}
 use Rattle.basis_enum.proofs.NextPivotLemmas.{pivots_once}
@@ -44,7 +44,7 @@ tableaux_once p pivots l m h g = levels_same l m (h.before ∙ sym g.before) (sa
 list_once : (vs xs ys : List ℕ) → IsAscendingListOf vs xs → IsAscendingListOf vs ys → xs ≡ ys
 list_once vs xs ys p q = increasing_same xs ys p.ascending q.ascending (λ v h. q.listed v (p.only v h)) (λ v h. p.listed v (q.only v h))
 
-told_once : (k : ℕ) (level : List WholeTableau) (pivots : List Pivot) (a b : EnumStop) → IsUnfitPivot k level pivots a → IsUnfitPivot k level pivots b → a ≡ b
+told_once : (k : ℕ) (level : List WholeTableau) (pivots : List Pivot) (a b : EnumerationStop) → IsUnfitPivot k level pivots a → IsUnfitPivot k level pivots b → a ≡ b
 told_once k level pivots a b h g =
     let same = same_stop (steps_of level) pivots h.pivot g.pivot h.step g.step h.first g.first in
     let lists : h.basis ≡ g.basis = list_once (parent_of level g.pivot).basics h.basis g.basis (subst (λ m. IsAscendingListOf (parent_of level m).basics h.basis) same.0 h.ascending) g.ascending in
@@ -61,10 +61,10 @@ bases_within-single n = refused_by-single TooLarge (within what.Bases most_bases
 
 -- ---- each level is one
 module _ (k : ℕ) (l : Levels) where
-  abbrev from_steps : List Pivot → Answer EnumStop Levels
+  abbrev from_steps : List Pivot → Answer EnumerationStop Levels
   from_steps pivots = pivots_fit k l.level pivots >> such_that (IsNextLevel l pivots)
 
-  abbrev from_count : List Pivot → Answer EnumStop Levels
+  abbrev from_count : List Pivot → Answer EnumerationStop Levels
   from_count pivots = bases_within (basis_count l pivots) >> from_steps pivots
 
   abbrev AreSomeNext : List Pivot → Type 0
@@ -79,7 +79,7 @@ module _ (k : ℕ) (l : Levels) where
         (λ _ _. such_that-single (IsNextLevel l pivots) (tableaux_once l pivots))))
 
     -- where no basis is next there is no next level
-    none_next : AreNextPivots l [] → (answer : Result Levels EnumStop) → next_level k l answer → ⊥
+    none_next : AreNextPivots l [] → (answer : Result Levels EnumerationStop) → next_level k l answer → ⊥
     none_next none (Ok m) (pivots, (are, some), _) =
         let c : 0 ≡ length pivots = ap length (pivots_once l [] pivots valid none are) in omega arith
     none_next none (Err r) (inl h) = h
@@ -94,32 +94,32 @@ module _ (s : LinearSystem) where
       bind-single (level_of s k) (next_level k) (level_of-single k) (λ l h. next_level-single k l (level_valid s k l h))
 
   -- ---- a refusal is that of all later levels
-  refused_later : (k j : ℕ) (stop : EnumStop) → level_of s k (Err stop) → k ≤ j → level_of s j (Err stop)
+  refused_later : (k j : ℕ) (stop : EnumerationStop) → level_of s k (Err stop) → k ≤ j → level_of s j (Err stop)
   refused_later k zero stop h l = (let first : k ≡ 0 = omega arith in subst (λ i. level_of s i (Err stop)) first h)
   refused_later k (suc j) stop h l = elim (eq-or-lt_of_le l) [
     | inl e ↦ subst (λ i. level_of s i (Err stop)) e h
     | inr m ↦ inl (refused_later k j stop h (le_of_suc-le-suc m))
   ]
 
-  refusals_once : (k j : ℕ) (r q : EnumStop) → level_of s k (Err r) → level_of s j (Err q) → k ≤ j → r ≡ q
+  refusals_once : (k j : ℕ) (r q : EnumerationStop) → level_of s k (Err r) → level_of s j (Err q) → k ≤ j → r ≡ q
   refusals_once k j r q h g l =
-      let same : ◌≡◌ {A = Result Levels EnumStop} (Err r) (Err q) = level_of-single j (Err r) (Err q) (refused_later k j r h l) g in cc same
+      let same : ◌≡◌ {A = Result Levels EnumerationStop} (Err r) (Err q) = level_of-single j (Err r) (Err q) (refused_later k j r h l) g in cc same
 
   -- ---- after the last level there is nothing
-  level_before : (j : ℕ) (answer : Result Levels EnumStop) → level_of s (suc j) answer → (earlier : Result Levels EnumStop) × level_of s j earlier
+  level_before : (j : ℕ) (answer : Result Levels EnumerationStop) → level_of s (suc j) answer → (earlier : Result Levels EnumerationStop) × level_of s j earlier
   level_before j (Ok m) (p, hp, _) = (Ok p, hp)
   level_before j (Err r) (inl h) = (Err r, h)
   level_before j (Err r) (inr (p, hp, _)) = (Ok p, hp)
 
   module _ (k : ℕ) (l : Levels) (h : level_of s k (Ok l)) (none : AreNextPivots l []) where
-    last_next : (answer : Result Levels EnumStop) → level_of s (suc k) answer → ⊥
+    last_next : (answer : Result Levels EnumerationStop) → level_of s (suc k) answer → ⊥
     last_next (Ok m) (p, hp, q) =
         none_next k l (level_valid s k l h) none (Ok m) (subst (λ p. next_level k p (Ok m)) (single-value (level_of s k) p l (level_of-single k) hp h) q)
     last_next (Err r) (inl g) = single-exclude (level_of s k) l r (level_of-single k) h g
     last_next (Err r) (inr (p, hp, q)) =
         none_next k l (level_valid s k l h) none (Err r) (subst (λ p. next_level k p (Err r)) (single-value (level_of s k) p l (level_of-single k) hp h) q)
 
-    nothing_after : (j : ℕ) → k < j → (answer : Result Levels EnumStop) → level_of s j answer → ⊥
+    nothing_after : (j : ℕ) → k < j → (answer : Result Levels EnumerationStop) → level_of s j answer → ⊥
     nothing_after zero less answer g = omega arith
     nothing_after (suc j) less answer g = elim (eq-or-lt_of_le (le_of_suc-le-suc less)) [
       | inl e ↦ last_next answer (subst (λ i. level_of s (suc i) answer) (sym e) g)
@@ -134,7 +134,7 @@ module _ (s : LinearSystem) where
     | inr (inr l) ↦ absurd (nothing_after g.number g.levels g.is_level g.none h.number l (Ok h.levels) h.is_level)
   ]
 
-  no_both : (a : List WholeTableau) (r : EnumStop) → AreReached s a → (k : ℕ) → level_of s k (Err r) → ⊥
+  no_both : (a : List WholeTableau) (r : EnumerationStop) → AreReached s a → (k : ℕ) → level_of s k (Err r) → ⊥
   no_both a r h k g = elim (cases_lt h.number k) [
     | inl l ↦ nothing_after h.number h.levels h.is_level h.none k l (Err r) g
     | inr l ↦ single-exclude (level_of s h.number) h.levels r (level_of-single h.number) h.is_level (refused_later k h.number r g l)

@@ -13,7 +13,7 @@ use Rattle.lists.proofs.ElementLemmas.{unmapped}
 use Rattle.linear_systems.specs.Vertices.{AreVertices}
 use Rattle.lex_tableau.specs.Rows.{WholeTableau}
 use Rattle.lex_tableau.specs.Starts.{LinearSystem, IsSystem, system_of}
-use Rattle.lex_tableau.specs.StartStops.{start_in, IsStarted}
+use Rattle.lex_tableau.specs.StartStops.{start_in, IsStartTableau}
 use Rattle.lex_tableau.specs.declared.tableau.StartStop.{StartStop}
 use Rattle.lex_tableau.specs.declared.tableau.StartStop.TheVariants as starts
 use Rattle.basis_enum.specs.Bases.{basis_of, AreVariables}
@@ -23,8 +23,8 @@ use Rattle.basis_enum.specs.Reached.{bases_within, level_of, next_level, next_pi
 use Rattle.basis_enum.proofs.CompleteLevelLaws.{Held, held_start, held_child, held_digits, level_held, pivoted_nonbasics}
 use Rattle.basis_enum.proofs.LevelLemmas.{level_few, level_many}
 use Rattle.basis_enum.specs.declared.found_pivots.FoundPivot.{FoundPivot}
-use Rattle.basis_enum.specs.declared.stop.EnumStop.{EnumStop}
-use Rattle.basis_enum.specs.declared.stop.EnumStop.TheVariants as stops
+use Rattle.basis_enum.specs.declared.stop.EnumerationStop.{EnumerationStop}
+use Rattle.basis_enum.specs.declared.stop.EnumerationStop.TheVariants as stops
 use Rattle.basis_enum.specs.declared.vertex.Vertex.{Vertex}
 use Rattle.basis_enum.specs.declared.walk.Walk.{Walk}
 use Rattle.basis_enum.specs.Children.{ArePivots, AreChildren, IsPivoted, LeadToReady}
@@ -34,7 +34,7 @@ use Rattle.basis_enum.specs.Marks.{AreSortedOnce, AreMarksOf, AreUpTo, IsVertexO
 use Rattle.basis_enum.specs.Merged.{IsMerged}
 use Rattle.basis_enum.specs.Next.{AreNewPivots, pivot_of, no_found_pivot, target_of}
 use Rattle.basis_enum.specs.Vertices.{VertexList, mark_of, marks_of}
-use Rattle.basis_enum.specs.Walks.{levels_of, IsWalkAt, IsWalkToEnd, HaveEntering, IsLevelStop, IsCountStop, IsEnumStop, AddsMoreVertices, AddsVertices}
+use Rattle.basis_enum.specs.Walks.{levels_of, IsWalkAt, IsWalkToEnd, HaveEntering, IsLevelStop, IsCountStop, IsEnumerationStop, AddsMoreVertices, AddsVertices}
 use Rattle.basis_enum.proofs.LevelPivotLemmas.{basis_at, found_in_start, found_in_more, pivot_is, target_is_there, entering_is, next_are}
 use Rattle.basis_enum.proofs.NextLevelLemmas.{next_level_is}
 use Rattle.basis_enum.proofs.VertexMarkLemmas.{reached_numbered, nonbasics_numbered, no_marks, marks_more, are_vertices}
@@ -76,7 +76,7 @@ walk_pivots s k w next h n = next_are (levels_of h.before w.level.items) w.known
 pub targets_apart : (level : List WholeTableau) (known bases : List ℕ) (next : List FoundPivot) → AreNewPivots level known next → bases ≡ map target_of next → (b : ℕ) → Contains known b → ¬ (Contains bases b)
 targets_apart level known bases next n e b k c =
     let z = unmapped target_of b next (subst (λ xs. Contains xs b) e c) in
-    (n.all.each z.0 (n.firsts.each z.0 z.1)).below.found.new (subst (Contains known) (sym z.2) k)
+    (n.all.each z.0 (n.firsts.each z.0 z.1)).from_there.found.new (subst (Contains known) (sym z.2) k)
 
 -- they lead to tableaux whose pivots can be found
 pub pivots_lead : (s : LinearSystem) (k : ℕ) (w : Walk) (next : List FoundPivot) → IsEnumerable s → IsWalkAt s k w → AreNewPivots w.level.items w.known.items next → LeadToReady s w.level.items next
@@ -181,11 +181,11 @@ walk_next s k w new next bases enumerable h n some few c e m adds =
 
 -- ---- the refusals
 -- the start's
-pub start_stop : (s : LinearSystem) (stop : StartStop) → Gives starts.Memory (start_in s) (Err stop) → IsEnumStop s (told_start stop)
+pub start_stop : (s : LinearSystem) (stop : StartStop) → Gives starts.Memory (start_in s) (Err stop) → IsEnumerationStop s (told_start stop)
 start_stop s stop (inl memory) = inl (ap told_start memory)
 start_stop s stop (inr h) = inr (0, inl (stop, h, refl))
 
-module _ (s : LinearSystem) (k : ℕ) (w : Walk) (next : List FoundPivot) (stop : EnumStop) (h : IsWalkAt s k w) (n : AreNewPivots w.level.items w.known.items next) (some : 0 < length next) where
+module _ (s : LinearSystem) (k : ℕ) (w : Walk) (next : List FoundPivot) (stop : EnumerationStop) (h : IsWalkAt s k w) (n : AreNewPivots w.level.items w.known.items next) (some : 0 < length next) where
   abbrev l : Levels
   l = levels_of h.before w.level.items
 
@@ -196,13 +196,13 @@ module _ (s : LinearSystem) (k : ℕ) (w : Walk) (next : List FoundPivot) (stop 
   next_are_some = (walk_pivots s k w next h n, subst (λ n. 0 < n) (sym (length-map next pivot_of)) some)
 
   -- so many bases are too many
-  pub count_stop : IsCountStop (length w.known.items + length next) stop → IsEnumStop s stop
+  pub count_stop : IsCountStop (length w.known.items + length next) stop → IsEnumerationStop s stop
   count_stop (inl memory) = inl memory
   count_stop (inr past) =
       inr (suc k, inr (l, h.is_level, inr (map pivot_of next, next_are_some, inl (subst (λ bases. bases_within bases (Err stop)) bases_are past))))
 
   -- a pivot does not fit
-  pub level_stop : length w.known.items + length next ≤ most_bases → IsLevelStop w.level.items next k stop → IsEnumStop s stop
+  pub level_stop : length w.known.items + length next ≤ most_bases → IsLevelStop w.level.items next k stop → IsEnumerationStop s stop
   level_stop few (inl memory) = inl memory
   level_stop few (inr unfit) =
       inr (suc k, inr (l, h.is_level, inr (map pivot_of next, next_are_some, inr (tt, λ over. omega (arith, over, few, bases_are), inl unfit))))
@@ -226,22 +226,22 @@ system_variables s h e =
     bounds : (v : ℕ) → Contains s.nonbasics v → (0 < v) × (v ≤ variable_count s)
     bounds v c = subst (λ w. (0 < w) × (w ≤ variable_count s)) c.2 (nonbasics_numbered s e c.0 v c.1)
 
-first_nonbasics : (s : LinearSystem) (t : WholeTableau) → IsStarted s t → s.nonbasics ≡ t.nonbasics
+first_nonbasics : (s : LinearSystem) (t : WholeTableau) → IsStartTableau s t → s.nonbasics ≡ t.nonbasics
 first_nonbasics s t f = same_number_lists s.nonbasics t.nonbasics f.start.fractions.width (λ j h. f.start.fractions.nonbasic j h)
 
-first_held : (s : LinearSystem) (t : WholeTableau) → IsSystem s → IsEnumerable s → IsStarted s t → Held s t
+first_held : (s : LinearSystem) (t : WholeTableau) → IsSystem s → IsEnumerable s → IsStartTableau s t → Held s t
 first_held s t h e f = held_start s t h e f.valid f.start
 
-pub first_ready : (s : LinearSystem) (t : WholeTableau) → IsSystem s → IsEnumerable s → IsStarted s t → IsReady t
+pub first_ready : (s : LinearSystem) (t : WholeTableau) → IsSystem s → IsEnumerable s → IsStartTableau s t → IsReady t
 first_ready s t h e f = ready s t e (first_held s t h e f)
 
-pub first_numbered : (s : LinearSystem) (t : WholeTableau) → IsSystem s → IsEnumerable s → IsStarted s t → AreUpTo (variable_count s) t.basics
+pub first_numbered : (s : LinearSystem) (t : WholeTableau) → IsSystem s → IsEnumerable s → IsStartTableau s t → AreUpTo (variable_count s) t.basics
 first_numbered s t h e f = reached_numbered s t e (first_held s t h e f).reached
 
-pub first_basis : (s : LinearSystem) (t : WholeTableau) → IsStarted s t → basis_of s.nonbasics ≡ basis_of t.nonbasics
+pub first_basis : (s : LinearSystem) (t : WholeTableau) → IsStartTableau s t → basis_of s.nonbasics ≡ basis_of t.nonbasics
 first_basis s t f = ap basis_of (first_nonbasics s t f)
 
-pub first_found : (t : WholeTableau) (known : List ℕ) (found : List FoundPivot) → AreFound t 0 known (length t.nonbasics) found → AreFoundIn (t ∷ []) known found
+pub first_found : (t : WholeTableau) (known : List ℕ) (found : List FoundPivot) → AreFound t 0 known found → AreFoundIn (t ∷ []) known found
 first_found t known found f = found_in_more [] known [] found t (found_in_start known) f
 
 pub first_all_ready : (t : WholeTableau) → IsReady t → AreReady (t ∷ [])
@@ -275,5 +275,5 @@ walk_vertices s w v e h bases order = (h.walk.before ++ w.level.items, reached, 
     list = are_vertices s (h.walk.before ++ w.level.items) (marks_of w.vertices.items) v.list h.walk.valid e reached h.walk.marks order
 
 -- why not all are reached is why there are no vertices
-pub reached_stop : (s : LinearSystem) (stop : EnumStop) → IsEnumStop s stop → Gives stops.Memory (vertices_in s) (Err stop)
+pub reached_stop : (s : LinearSystem) (stop : EnumerationStop) → IsEnumerationStop s stop → Gives stops.Memory (vertices_in s) (Err stop)
 reached_stop s stop h = gives_first {Z = VertexList} stops.Memory (reached_in s) (λ reached. such_that (IsVertexListOf s reached)) stop h

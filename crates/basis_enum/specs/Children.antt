@@ -58,7 +58,7 @@ IsChildAt e n = IsPivoted e.level.now (pivot_numbered e n)
 -- that tableau, the pivots from there to new bases, and its vertex, where it has one
 pub record IsReachedAt (e : Expansion) (n : ℕ) (r : Reached) : Type 0 where
   pub child : IsChildAt e n r.tableau
-  pub found : AreFound r.tableau n e.known.now (length r.tableau.nonbasics) r.findings.found.items
+  pub found : AreFound r.tableau n e.known.now r.findings.found.items
   pub vertex : IsVertexOf e.system.now r.tableau r.findings.vertex
 
 -- the first step of that pivot that does not fit, or no memory, of which nothing is said

@@ -24,7 +24,7 @@ pub record IsFound (t : WholeTableau) (place : ℕ) (known : List ℕ) (col : �
   pub new : ¬ (Contains known p.target)
 
 -- the pivot in this column, where there is one, leads to a known basis
-pub record HasNone (t : WholeTableau) (known : List ℕ) (column : ℕ) : Type 0 where
+pub record LeadsBack (t : WholeTableau) (known : List ℕ) (column : ℕ) : Type 0 where
   pub leads_back : (r : ℕ) → IsLeavingRow t column r → Contains known (neighbour_of t r column)
 
 -- among these is the pivot in this column
@@ -32,19 +32,12 @@ abbrev pub HasFound : WholeTableau → ℕ → List ℕ → List FoundPivot → 
 HasFound t place known found column =
     (p : FoundPivot) × Contains found p × IsFound t place known column p
 
--- a column below the bound, with such a pivot
-pub record IsFoundBelow (t : WholeTableau) (place : ℕ) (known : List ℕ) (bound : ℕ) (p : FoundPivot)
+-- a column, with such a pivot
+pub record IsFoundFrom (t : WholeTableau) (place : ℕ) (known : List ℕ) (p : FoundPivot)
     : Type 0 where
   pub column : ℕ
-  pub within : column < bound
+  pub within : column < length t.nonbasics
   pub found : IsFound t place known column p
-
--- of each column below the bound the pivot is there, or leads to a known basis
-pub record AreFound (t : WholeTableau) (place : ℕ) (known : List ℕ) (bound : ℕ)
-    (found : List FoundPivot) : Type 0 where
-  pub each : (p : FoundPivot) → Contains found p → IsFoundBelow t place known bound p
-  pub all : (column r : ℕ) → column < bound → IsLeavingRow t column r
-      → ¬ (Contains known (neighbour_of t r column)) → HasFound t place known found column
 
 -- of each of its columns the pivot is among these, or leads to a known basis
 abbrev pub HasAllFound : WholeTableau → ℕ → List ℕ → List FoundPivot → Type 0
@@ -52,12 +45,17 @@ HasAllFound t place known found =
     (column r : ℕ) → column < length t.nonbasics → IsLeavingRow t column r
     → ¬ (Contains known (neighbour_of t r column)) → HasFound t place known found column
 
+-- the pivots from t that lead to new bases
+pub record AreFound (t : WholeTableau) (place : ℕ) (known : List ℕ) (found : List FoundPivot)
+    : Type 0 where
+  pub each : (p : FoundPivot) → Contains found p → IsFoundFrom t place known p
+  pub all : HasAllFound t place known found
+
 -- a tableau of the level and a column, with such a pivot
 pub record IsFoundIn (level : List WholeTableau) (known : List ℕ) (p : FoundPivot) : Type 0 where
   pub place : ℕ
   pub within : place < length level
-  pub below : IsFoundBelow (get_or level place no_tableau) place known
-      (length (get_or level place no_tableau).nonbasics) p
+  pub from_there : IsFoundFrom (get_or level place no_tableau) place known p
 
 -- the pivots from the level that lead to new bases
 pub record AreFoundIn (level : List WholeTableau) (known : List ℕ) (found : List FoundPivot)

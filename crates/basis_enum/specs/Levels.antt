@@ -40,7 +40,7 @@ pub record IsPivot (level : List WholeTableau) (p : Pivot) : Type 0 where
   pub column : p.column < length (parent_of level p).nonbasics
   pub row : IsLeavingRow (parent_of level p) p.column p.row
 
--- by the parent's place in the level, and then by the entering variable
+-- p comes before q: by the parent's place, and then by the entering variable
 abbrev pub IsEarlierPivot : List WholeTableau → Pivot → Pivot → Type 0
 IsEarlierPivot level p q =
     (p.parent < q.parent) ⊎ ((p.parent ≡ q.parent) × (entering level p < entering level q))

@@ -1,5 +1,5 @@
 -- The marks of the basic solutions of tableaux
-use Rattle.std.specs.Prelude.{ℕ, suc, ◌<◌, ◌≤◌, ◌≡◌, ◌≢◌, List, length, get_or, map, Option, Some, None}
+use Rattle.std.specs.Prelude.{ℕ, suc, ◌<◌, ◌≤◌, ◌≡◌, ◌≢◌, List, length, get_or, map, Option, Some, None, MatchOption}
 use Rattle.std.specs.List.{All, Contains}
 use Rattle.rational.specs.Rational.{ℚ}
 use Rattle.lex_tableau.specs.Rows.{WholeTableau, tableau}
@@ -15,15 +15,16 @@ use Rattle.basis_enum.specs.Vertices.{mark_of}
 abbrev pub AreUpTo : ℕ → List ℕ → Type 0
 AreUpTo n variables = All (λ v. (0 < v) × (v ≤ n)) variables
 
--- the row of the first n in which variable v is basic, or none
-abbrev pub IsRowTo : WholeTableau → ℕ → ℕ → Option ℕ → Type 0
-IsRowTo t n v None = (i : ℕ) → i < n → get_or t.basics i 0 ≢ v
-IsRowTo t n v (Some row) = (row < n) × (get_or t.basics row 0 ≡ v)
+-- the row in which variable v is basic, or none
+abbrev pub IsRowOf : WholeTableau → ℕ → Option ℕ → Type 0
+IsRowOf t v o =
+    MatchOption o ((i : ℕ) → i < length t.basics → get_or t.basics i 0 ≢ v)
+    (λ row. (row < length t.basics) × (get_or t.basics row 0 ≡ v))
 
 -- that of each variable up to 128, for variable v at place v - 1
-pub record AreRowsTo (t : WholeTableau) (n : ℕ) (rows : List (Option ℕ)) : Type 0 where
+pub record AreRowsOf (t : WholeTableau) (rows : List (Option ℕ)) : Type 0 where
   pub size : length rows ≡ 128
-  pub each : (l : ℕ) → l < 128 → IsRowTo t n (suc l) (get_or rows l None)
+  pub each : (l : ℕ) → l < 128 → IsRowOf t (suc l) (get_or rows l None)
 
 -- the values of variables in the basic solution
 abbrev pub values_of : WholeTableau → List ℕ → List ℚ

@@ -8,8 +8,8 @@ use Rattle.lex_tableau.specs.Starts.{LinearSystem, IsSystem}
 use Rattle.basis_enum.specs.Levels.{Levels, entering}
 use Rattle.basis_enum.specs.Reached.{bases_within, level_of, pivots_fit, reached_in}
 use Rattle.basis_enum.specs.declared.found_pivots.FoundPivot.{FoundPivot}
-use Rattle.basis_enum.specs.declared.stop.EnumStop.{EnumStop}
-use Rattle.basis_enum.specs.declared.stop.EnumStop.TheVariants.{Memory}
+use Rattle.basis_enum.specs.declared.stop.EnumerationStop.{EnumerationStop}
+use Rattle.basis_enum.specs.declared.stop.EnumerationStop.TheVariants.{Memory}
 use Rattle.basis_enum.specs.declared.vertex.Vertex.{Vertex}
 use Rattle.basis_enum.specs.declared.walk.Walk.{Walk}
 use Rattle.basis_enum.specs.Found.{AreKnown}
@@ -44,16 +44,16 @@ HaveEntering level next =
     (p : FoundPivot) → Contains next p → p.entering ≡ entering level (pivot_of p)
 
 -- why not all pivots from level k fit, or no memory
-abbrev pub IsLevelStop : List WholeTableau → List FoundPivot → ℕ → EnumStop → Type 0
+abbrev pub IsLevelStop : List WholeTableau → List FoundPivot → ℕ → EnumerationStop → Type 0
 IsLevelStop level next k stop = Gives Memory (pivots_fit k level (map pivot_of next)) (Err stop)
 
 -- so many bases are too many, or no memory
-abbrev pub IsCountStop : ℕ → EnumStop → Type 0
+abbrev pub IsCountStop : ℕ → EnumerationStop → Type 0
 IsCountStop bases stop = Gives Memory (bases_within bases) (Err stop)
 
 -- why the bases are not all reached, or no memory
-abbrev pub IsEnumStop : LinearSystem → EnumStop → Type 0
-IsEnumStop s stop = Gives Memory (reached_in s) (Err stop)
+abbrev pub IsEnumerationStop : LinearSystem → EnumerationStop → Type 0
+IsEnumerationStop s stop = Gives Memory (reached_in s) (Err stop)
 
 -- the vertices of these tableaux come to those of any others
 abbrev pub AddsVertices : LinearSystem → List WholeTableau → List Vertex → List Vertex → Type 0

@@ -2,13 +2,13 @@
 ghost use Rattle.std.specs.Prelude.{◌≡◌, ◌<◌, ◌≤◌, ◌+◌, length, IfOk};
 ghost use Rattle.answers.specs.Answers.{Gives, map_ok};
 ghost use Rattle.basis_enum.specs.Systems.{IsEnumerable};
-ghost use Rattle.basis_enum.specs.declared.stop.EnumStop.TheVariants as stops;
+ghost use Rattle.basis_enum.specs.declared.stop.EnumerationStop.TheVariants as stops;
 ghost use Rattle.basis_enum.specs.Enumeration.{vertices_in};
 ghost use Rattle.basis_enum.specs.Levels.{most_bases};
 ghost use Rattle.basis_enum.specs.Vertices.{vertex_list};
 
 use crate::marking::in_order;
-use crate::stop::EnumStop;
+use crate::stop::EnumerationStop;
 use crate::vertex::Vertices;
 use crate::walk::reach;
 use crate::workshop::Workshop;
@@ -41,7 +41,7 @@ pub fn enumerate<R: Threads + Sync, G: Gate, L: Ledger>(
     workers: u32,
     gate: &G,
     pivots: &mut PivotCount<L>,
-) -> Result<Vertices, EnumStop>
+) -> Result<Vertices, EnumerationStop>
     requires enumerable { IsEnumerable system.now }
     requires workers { (1 ≤ workers) × (workers ≤ 64) }
     ensures vertices { Gives stops.Memory (vertices_in system.now) (map_ok result vertex_list) }
@@ -69,7 +69,7 @@ pub fn enumerate_with<R: Threads + Sync, G: Gate, L: Ledger>(
     helpers: &Helpers,
     gate: &G,
     pivots: &mut PivotCount<L>,
-) -> Result<Vertices, EnumStop>
+) -> Result<Vertices, EnumerationStop>
     requires enumerable { IsEnumerable system.now }
     ensures vertices { Gives stops.Memory (vertices_in system.now) (map_ok result vertex_list) }
     ensures counted { IfOk result (λ v. pivots.new + 1 ≡ pivots.old + v.bases) }

@@ -4,7 +4,7 @@ ghost use Rattle.std.specs.List.Sorted.{IsStrictlyIncreasing};
 ghost use Rattle.std.specs.Ordering.{nat_cmp};
 ghost use Rattle.lex_tableau.specs.Rows.{IsTableau};
 ghost use Rattle.basis_enum.specs.Bases.{HaveDigits, basis_of, neighbour_of};
-ghost use Rattle.basis_enum.specs.Found.{AreFound, HasNone, IsFound, IsReady};
+ghost use Rattle.basis_enum.specs.Found.{AreFound, LeadsBack, IsFound, IsReady};
 ghost use Rattle.basis_enum.specs.Marks.{AreUpTo, IsVertexOf};
 ghost use Rattle.basis_enum.specs.Next.{AreSmall, IsNextOf, rank_of, target_of};
 ghost use Rattle.basis_enum.specs.Systems.{IsEnumerable, variable_count};
@@ -59,7 +59,7 @@ fn pivot_in_column(
     requires basis { basis ≡ basis_of tableau.now.nonbasics }
     requires known { IsStrictlyIncreasing known.now }
     requires column_in { column < length tableau.now.nonbasics }
-    ensures { MatchOption result (HasNone tableau.now known.now column)
+    ensures { MatchOption result (LeadsBack tableau.now known.now column)
         (IsFound tableau.now parent known.now column) }
 {
     let row = tableau.ratio_row(column)?;
@@ -87,8 +87,7 @@ fn pivots_from(
     requires ready { IsReady tableau.now }
     requires basis { basis ≡ basis_of tableau.now.nonbasics }
     requires known { IsStrictlyIncreasing known.now }
-    ensures { IfOk result (λ v. AreFound tableau.now parent known.now
-        (length tableau.now.nonbasics) v.items) }
+    ensures { IfOk result (λ v. AreFound tableau.now parent known.now v.items) }
 {
     let mut found = Vec::with_capacity(alloc, tableau.nonbasics().len())?;
     for column in 0..tableau.nonbasics().len() {
@@ -113,8 +112,7 @@ pub(crate) fn found_from(
     requires ready { IsReady tableau.now }
     requires basis { basis ≡ basis_of tableau.now.nonbasics }
     requires known { IsStrictlyIncreasing known.now }
-    ensures found { IfOk result (λ f. AreFound tableau.now parent known.now
-        (length tableau.now.nonbasics) f.found.items) }
+    ensures found { IfOk result (λ f. AreFound tableau.now parent known.now f.found.items) }
     ensures vertex { IfOk result (λ f. IsVertexOf system.now tableau.now f.vertex) }
 {
     let found = pivots_from(alloc, tableau, parent, basis, known)?;

@@ -30,7 +30,7 @@ mod walk;
 mod workshop;
 
 pub use enumeration::{enumerate, enumerate_with};
-pub use stop::{Basis, EnumStop};
+pub use stop::{Basis, EnumerationStop};
 pub use vertex::{Vertex, Vertices};
 
 /// A system has one answer: its vertices, or why they are not listed.

@@ -5,7 +5,7 @@ ghost use Rattle.rational.specs.Rational.{zero_ℚ};
 ghost use Rattle.lex_tableau.specs.Rows.{tableau as fractions_of};
 ghost use Rattle.linear_systems.specs.Rows.{basic_solution};
 ghost use Rattle.linear_systems.specs.Vertices.{IsZeroWord, mask_of};
-ghost use Rattle.basis_enum.specs.Marks.{AreRowsTo, AreSortedOnce, AreUpTo, IsVertexOf, values_of};
+ghost use Rattle.basis_enum.specs.Marks.{AreRowsOf, AreSortedOnce, AreUpTo, IsVertexOf, values_of};
 ghost use Rattle.basis_enum.specs.Systems.{IsEnumerable, variable_count};
 ghost use Rattle.basis_enum.specs.Vertices.{mark_of, marks_of};
 
@@ -64,7 +64,7 @@ fn number(vertex: &Vertex) -> u128
 // The row of each basic variable, at the place of the variable: that of variable v is v - 1.
 fn rows_of(tableau: &Tableau) -> [Option<usize>; MOST_VARIABLES]
     requires { AreUpTo 128 tableau.now.basics }
-    ensures { AreRowsTo tableau.now (length tableau.now.basics) result }
+    ensures { AreRowsOf tableau.now result }
 {
     let mut rows = [None; MOST_VARIABLES];
     for (row, variable) in tableau.basics().iter().enumerate() {
@@ -75,7 +75,7 @@ fn rows_of(tableau: &Tableau) -> [Option<usize>; MOST_VARIABLES]
 
 // The value of a variable in a basic solution: the right side of its row, and 0 where it has none.
 fn value(tableau: &Tableau, rows: &[Option<usize>], variable: u32) -> Frac
-    requires rows { AreRowsTo tableau.now (length tableau.now.basics) rows.now }
+    requires rows { AreRowsOf tableau.now rows.now }
     requires above { 0 < variable }
     requires most { variable ≤ 128 }
     ensures { result ≡ basic_solution (fractions_of tableau.now) variable }

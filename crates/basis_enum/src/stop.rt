@@ -38,7 +38,7 @@ impl Basis {
 
 /// Why a system's vertices are not listed.
 #[derive(Debug, Drop)]
-pub enum EnumStop {
+pub enum EnumerationStop {
     /// A step of the start does not fit: the first.
     Start {
         /// The row, counted from 0.
@@ -63,60 +63,60 @@ pub enum EnumStop {
     Memory,
 }
 
-impl From<TooLarge> for EnumStop {
+impl From<TooLarge> for EnumerationStop {
     ghost use Rattle.std.specs.Prelude.{◌≡◌};
-    ghost use Rattle.basis_enum.specs.declared.stop.EnumStop.TheVariants as stops;
+    ghost use Rattle.basis_enum.specs.declared.stop.EnumerationStop.TheVariants as stops;
 
     ghost from_gives = { λ limit e. e ≡ stops.TooLarge limit };
 
-    fn from(limit: TooLarge) -> EnumStop {
-        EnumStop::TooLarge(limit)
+    fn from(limit: TooLarge) -> EnumerationStop {
+        EnumerationStop::TooLarge(limit)
     }
 }
 
-impl From<StartStop> for EnumStop {
+impl From<StartStop> for EnumerationStop {
     ghost use Rattle.std.specs.Prelude.{◌≡◌};
     ghost use Rattle.basis_enum.specs.Reached.{told_start};
 
     ghost from_gives = { λ stop e. e ≡ told_start stop };
 
-    fn from(stop: StartStop) -> EnumStop {
+    fn from(stop: StartStop) -> EnumerationStop {
         match stop {
-            StartStop::Unfit { row, unfit } => EnumStop::Start { row, unfit },
-            StartStop::Memory => EnumStop::Memory,
+            StartStop::Unfit { row, unfit } => EnumerationStop::Start { row, unfit },
+            StartStop::Memory => EnumerationStop::Memory,
         }
     }
 }
 
-impl From<Memory> for EnumStop {
+impl From<Memory> for EnumerationStop {
     ghost use Rattle.std.specs.Prelude.{◌≡◌};
-    ghost use Rattle.basis_enum.specs.declared.stop.EnumStop.TheVariants as stops;
+    ghost use Rattle.basis_enum.specs.declared.stop.EnumerationStop.TheVariants as stops;
 
     ghost from_gives = { λ _ e. e ≡ stops.Memory };
 
-    fn from(_memory: Memory) -> EnumStop {
-        EnumStop::Memory
+    fn from(_memory: Memory) -> EnumerationStop {
+        EnumerationStop::Memory
     }
 }
 
-impl From<AllocError> for EnumStop {
+impl From<AllocError> for EnumerationStop {
     ghost use Rattle.std.specs.Prelude.{◌≡◌};
-    ghost use Rattle.basis_enum.specs.declared.stop.EnumStop.TheVariants as stops;
+    ghost use Rattle.basis_enum.specs.declared.stop.EnumerationStop.TheVariants as stops;
 
     ghost from_gives = { λ _ e. e ≡ stops.Memory };
 
-    fn from(_error: AllocError) -> EnumStop {
-        EnumStop::Memory
+    fn from(_error: AllocError) -> EnumerationStop {
+        EnumerationStop::Memory
     }
 }
 
-impl<T: Drop> From<AllocFailed<T>> for EnumStop {
+impl<T: Drop> From<AllocFailed<T>> for EnumerationStop {
     ghost use Rattle.std.specs.Prelude.{◌≡◌};
-    ghost use Rattle.basis_enum.specs.declared.stop.EnumStop.TheVariants as stops;
+    ghost use Rattle.basis_enum.specs.declared.stop.EnumerationStop.TheVariants as stops;
 
     ghost from_gives = { λ _ e. e ≡ stops.Memory };
 
-    fn from(_refused: AllocFailed<T>) -> EnumStop {
-        EnumStop::Memory
+    fn from(_refused: AllocFailed<T>) -> EnumerationStop {
+        EnumerationStop::Memory
     }
 }

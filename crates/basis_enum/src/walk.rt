@@ -10,14 +10,14 @@ ghost use Rattle.basis_enum.specs.Levels.{most_bases};
 ghost use Rattle.basis_enum.specs.Merged.{IsMerged};
 ghost use Rattle.basis_enum.specs.Next.{AreNewPivots, target_of};
 ghost use Rattle.basis_enum.specs.Reached.{bases_within};
-ghost use Rattle.basis_enum.specs.Walks.{AddsVertices, HaveEntering, IsCountStop, IsEnumStop, IsLevelStop, IsWalkAt, IsWalkToEnd};
+ghost use Rattle.basis_enum.specs.Walks.{AddsVertices, HaveEntering, IsCountStop, IsEnumerationStop, IsLevelStop, IsWalkAt, IsWalkToEnd};
 
 use crate::bases::{basis, merged};
 use crate::children::{ChildStop, Expansion, children};
 use crate::found_pivots::{FoundPivot, found_from, next_pivots, targets};
 use crate::marking::add_vertex;
 use crate::spent::Spent;
-use crate::stop::{Basis, EnumStop};
+use crate::stop::{Basis, EnumerationStop};
 use crate::vertex::Vertex;
 use crate::workshop::Workshop;
 use answers::Memory;
@@ -57,12 +57,12 @@ fn start<G: Gate>(
     alloc: Global,
     system: &System,
     gate: &G,
-) -> Result<(Walk, Vec<FoundPivot>), EnumStop>
+) -> Result<(Walk, Vec<FoundPivot>), EnumerationStop>
     requires enumerable { IsEnumerable system.now }
     ensures walk { IfOk result (λ p. IsWalkAt system.now 0 p.0) }
     ensures next { IfOk result (λ p. AreNewPivots p.0.level.items p.0.known.items p.1.items) }
     ensures one { IfOk result (λ p. length p.0.known.items ≡ 1) }
-    ensures stop { IfErr result (IsEnumStop system.now) }
+    ensures stop { IfErr result (IsEnumerationStop system.now) }
 {
     let tableau = Tableau::start(alloc, system)?;
     let basis = basis(system.nonbasics());
@@ -93,7 +93,7 @@ fn ascending(alloc: Global, variables: &[u32]) -> Result<Vec<u32>, Memory>
 }
 
 // The refusal of the next level.
-fn refusal(alloc: Global, expansion: &Expansion, number: u32, stop: ChildStop) -> EnumStop
+fn refusal(alloc: Global, expansion: &Expansion, number: u32, stop: ChildStop) -> EnumerationStop
     requires expandable { IsExpandable expansion.now }
     requires entering { HaveEntering expansion.now.level.now expansion.now.next.now }
     requires stop { IsChildStop expansion.now stop }
@@ -103,16 +103,16 @@ fn refusal(alloc: Global, expansion: &Expansion, number: u32, stop: ChildStop) -
         ChildStop::Unfit { place, unfit } => {
             let pivot = expansion.next[place];
             match ascending(alloc, expansion.level[pivot.parent as usize].basics()) {
-                Ok(variables) => EnumStop::Range {
+                Ok(variables) => EnumerationStop::Range {
                     level: number,
                     basis: Basis::new(variables),
                     entering: pivot.entering,
                     unfit,
                 },
-                Err(_) => EnumStop::Memory,
+                Err(_) => EnumerationStop::Memory,
             }
         }
-        ChildStop::Memory => EnumStop::Memory,
+        ChildStop::Memory => EnumerationStop::Memory,
     }
 }
 
@@ -124,7 +124,7 @@ fn next_level<R: Threads + Sync, G: Gate, L: Ledger>(
     number: u32,
     vertices: &mut Vec<Vertex>,
     pivots: &mut PivotCount<L>,
-) -> Result<(Vec<Tableau>, Vec<FoundPivot>), EnumStop>
+) -> Result<(Vec<Tableau>, Vec<FoundPivot>), EnumerationStop>
     requires expandable { IsExpandable expansion.now }
     requires entering { HaveEntering expansion.now.level.now expansion.now.next.now }
     ensures children { IfOk result (λ p. AreAllChildren expansion.now p.0.items) }
@@ -144,7 +144,7 @@ fn next_level<R: Threads + Sync, G: Gate, L: Ledger>(
 }
 
 // Refuses too many bases.
-fn check_count(bases: usize, next: &[FoundPivot]) -> Result<(), EnumStop>
+fn check_count(bases: usize, next: &[FoundPivot]) -> Result<(), EnumerationStop>
     requires { bases ≤ most_bases }
     ensures few { OnOk result (bases + length next.now ≤ most_bases) }
     ensures stop { IfErr result (λ stop. bases_within (bases + length next.now) (Err stop)) }
@@ -154,7 +154,11 @@ fn check_count(bases: usize, next: &[FoundPivot]) -> Result<(), EnumStop>
 }
 
 // The bases that are known, and with them those to which these pivots lead.
-fn known_after(alloc: Global, known: &[u128], next: &[FoundPivot]) -> Result<Vec<u128>, EnumStop>
+fn known_after(
+    alloc: Global,
+    known: &[u128],
+    next: &[FoundPivot],
+) -> Result<Vec<u128>, EnumerationStop>
     requires few { length known.now ≤ most_bases }
     requires known { IsStrictlyIncreasing known.now }
     requires rising { IsStrictlyIncreasing (map target_of next.now) }
@@ -177,7 +181,7 @@ fn advance<R: Threads + Sync, G: Gate, L: Ledger>(
     next: &[FoundPivot],
     number: u32,
     pivots: &mut PivotCount<L>,
-) -> Result<Vec<FoundPivot>, EnumStop>
+) -> Result<Vec<FoundPivot>, EnumerationStop>
     requires enumerable { IsEnumerable system.now }
     requires walk { IsWalkAt system.now number walk.old }
     requires next { AreNewPivots walk.old.level.items walk.old.known.items next.now }
@@ -185,7 +189,7 @@ fn advance<R: Threads + Sync, G: Gate, L: Ledger>(
     ensures walk { OnOk result (IsWalkAt system.now (number + 1) walk.new) }
     ensures next { IfOk result
         (λ v. AreNewPivots walk.new.level.items walk.new.known.items v.items) }
-    ensures stop { IfErr result (IsEnumStop system.now) }
+    ensures stop { IfErr result (IsEnumerationStop system.now) }
     ensures counted { OnOk result (pivots.new + length walk.old.known.items
         ≡ pivots.old + length walk.new.known.items) }
     ensures bounded { pivots.new + length walk.old.known.items ≤ pivots.old + most_bases }
@@ -211,10 +215,10 @@ pub(crate) fn reach<R: Threads + Sync, G: Gate, L: Ledger>(
     workshop: &Workshop<R, G>,
     system: &System,
     pivots: &mut PivotCount<L>,
-) -> Result<Walk, EnumStop>
+) -> Result<Walk, EnumerationStop>
     requires enumerable { IsEnumerable system.now }
     ensures walk { IfOk result (IsWalkToEnd system.now) }
-    ensures stop { IfErr result (IsEnumStop system.now) }
+    ensures stop { IfErr result (IsEnumerationStop system.now) }
     ensures counted { IfOk result (λ w. pivots.new + 1 ≡ pivots.old + length w.known.items) }
     ensures bounded { pivots.new < pivots.old + most_bases }
     ensures risen { pivots.old ≤ pivots.new }

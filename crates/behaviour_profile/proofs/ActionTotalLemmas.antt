@@ -1,7 +1,6 @@
 -- How many actions the players of a tree have.
 use Rattle.std.proofs.Common.{ℕ, zero, suc, ◌+◌, ◌*◌, ◌<◌, ◌≤◌, ◌≡◌, ◌^◌, Bool, true, false, Decides, Option, Some, None, [], ◌∷◌, ◌++◌, length, map, refl, ap, ◌∙◌, arith}
 use Rattle.std.specs.Prelude.{◌==◌, if◌then◌else◌, sum}
-use Rattle.std.specs.List.{range_with_len, flat_map}
 use Rattle.std.proofs.lemmas.Bool.Decides.{Decides-eqb}
 use Rattle.std.proofs.lemmas.List.{append-nil, map-append}
 use Rattle.game_theory.specs.Trees.{Tree}
@@ -10,8 +9,8 @@ use Rattle.game_core.specs.Tree.{GameTree, IsGameTree}
 use Rattle.game_core.specs.TreeGame.{game_of_tree}
 use Rattle.strategy_lists.proofs.ActionCountLemmas.{actions-below}
 use Rattle.game_theory.proofs.IndexLemmas.{numbers_with-next}
-use Rattle.behaviour_profile.specs.EntryTests.{action_counts}
-use Rattle.game_theory.specs.OwnSets.{own_counts, numbers_with}
+use Rattle.behaviour_profile.specs.EntryStarts.{sets_below}
+use Rattle.game_theory.specs.OwnSets.{action_counts, own_counts, own_sets, numbers_with}
 use Rattle.behaviour_profile.proofs.GroupListLemmas.{sum-append, sum-cons, sum-nil}
 use Rattle.lists.proofs.ElementLemmas.{made-next}
 
@@ -63,10 +62,10 @@ module _ (t : Tree) where
   total-none (suc p) = omega (arith, total-none p)
 
   -- it is the sum of the players' counts
-  total-is : (p : ℕ) → sum (flat_map (own_counts t) (range_with_len 0 p)) ≡ total_below p t.sets
+  total-is : (p : ℕ) → sum (map t.actions (sets_below t p)) ≡ total_below p t.sets
   total-is zero = sum-nil
   total-is (suc p) =
-      let all = ap sum (made-next (own_counts t) p) ∙ sum-append (flat_map (own_counts t) (range_with_len 0 p)) (own_counts t p) in
+      let all = ap (λ sets. sum (map t.actions sets)) (made-next (own_sets t) p) ∙ ap sum (map-append t.actions (sets_below t p) (own_sets t p)) ∙ sum-append (map t.actions (sets_below t p)) (own_counts t p) in
       omega (arith, all, total-is p)
 
 total-few : (t : GameTree) (p n : ℕ) → IsGameTree t → n ≤ length t.sets → total_below (game_of_tree t) p n ≤ 65535 * n

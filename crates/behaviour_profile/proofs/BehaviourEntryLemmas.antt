@@ -67,7 +67,7 @@ entries_below-push t strategies profile choices all now i is before push =
 
 -- ---- where the parts stand
 -- what stands at a place is among the sets
-among-place : (sets : List ℕ) (place s : ℕ) → slice_get sets place ≡ Some s → IsAmong sets s
+pub among-place : (sets : List ℕ) (place s : ℕ) → slice_get sets place ≡ Some s → IsAmong sets s
 among-place [] place s at = cc
 among-place (set ∷ sets) zero s at = inl (same_Some set s at)
 among-place (set ∷ sets) (suc place) s at = inr (among-place sets place s at)

@@ -1,103 +1,167 @@
--- Where the entries of sets begin, set by set and player by player.
-use Rattle.std.proofs.Common.{ℕ, ◌+◌, ◌-◌, ◌<◌, ◌≤◌, ◌≡◌, ◌≢◌, inl, inr, Some, List, [], ◌∷◌, ◌++◌, length, get_or, set, slice_get, sym, ap, ap₂, ◌∙◌, subst, add-one, append_assoc, arith}
-use Rattle.std.specs.List.{flat_map}
-use Rattle.std.proofs.lemmas.Bool.{cases_eq}
-use Rattle.std.proofs.lemmas.Grind.{flat_map-append}
-use Rattle.std.proofs.lemmas.List.{append-nil, length-append, length-set, get_or-append-add, get_or-set_same, get_or-set_other}
-use Rattle.std.proofs.lemmas.Option.{slice_get-get_or, slice_get_within, get_or_from_slice_get}
-use Rattle.rational.specs.Rational.{ℚ, zero_ℚ}
-use Rattle.game_theory.specs.Lines.{listed}
-use Rattle.game_theory.proofs.ProfileLineLemmas.{length-listed, get_or-listed}
+-- Where the entries of sets begin, and that the entries of behaviour stand there.
+use Rattle.std.proofs.Common.{ℕ, zero, suc, ◌+◌, ◌<◌, ◌≤◌, ◌≡◌, inl, inr, Some, List, [], ◌∷◌, ◌++◌, length, map, get_or, set, slice_get, take, sym, ap, ap₂, ◌∙◌, subst, append_assoc, length-append, add-one, arith}
+use Rattle.std.specs.Prelude.{option_map, sum}
+use Rattle.std.proofs.lemmas.Bool.{cases_lt}
+use Rattle.std.proofs.lemmas.List.{append-nil, get_or_append_left, get_or_at, get_or-set_same, get_or-set_other, length-map, length-set, map-append, take_all, take-append-le, take-map}
+use Rattle.std.proofs.lemmas.Option.{slice_get-get_or, slice_get-map}
+use Rattle.rational.specs.Rational.{ℚ}
+use Rattle.rational.specs.Sum.{entry_at}
 use Rattle.game_theory.specs.Trees.{Tree, IsTree}
 use Rattle.game_theory.specs.Behaviour.{Behaviour}
-use Rattle.game_theory.specs.TreeEntries.{own_entries, entries_below, tree_entries}
-use Rattle.game_theory.specs.OwnSets.{numbers_with}
-use Rattle.game_theory.proofs.IndexLemmas.{numbers_with-last, numbers_with-other}
-use Rattle.lists.proofs.ElementLemmas.{made-next, slice_get-longer}
-use Rattle.behaviour_profile.specs.EntryStarts.{AreStarts, AreStartsTo, ComesTo, entries_to}
+use Rattle.game_theory.specs.OwnSets.{action_counts, own_counts, own_sets, player_sets}
+use Rattle.game_theory.specs.TreeEntries.{tree_entries}
+use Rattle.game_theory.proofs.OwnSetLemmas.{AscendFrom, IsAmong, IsAmong-from, IsAmong-parts, among_at, index_of, own_sets-ascend, own_sets-tell}
+use Rattle.game_theory.proofs.PlayerSetLemmas.{player_sets-has}
+use Rattle.game_theory.proofs.ProfileLineLemmas.{entries-injective, length-entries}
+use Rattle.lists.proofs.ElementLemmas.{made-next}
+use Rattle.behaviour_profile.specs.EntryStarts.{AreStarts, AreStartsOf, sets_below}
+use Rattle.behaviour_profile.specs.EntryTests.{mixed_of}
+use Rattle.behaviour_profile.proofs.BehaviourEntryLemmas.{among-place}
+use Rattle.behaviour_profile.proofs.GroupListLemmas.{end-within, sum-append, sum-cons, sum-nil, taken}
+use Rattle.behaviour_profile.proofs.TestedBehaviourLemmas.{all_entries, below-tells, by_place, count-at, counts-long}
+use Rattle.behaviour_profile.proofs.TestedEntryLemmas.{entries-mixed_of}
+use Rattle.behaviour_profile.proofs.TreeGroupLemmas.{total-within}
 
--- and after a list, one further
-found-right : (xs : List ℚ) (n : ℕ) (f : ℕ → ℚ) (a : ℕ) → a < n → slice_get (xs ++ listed n f) (length xs + a) ≡ Some (f a)
-found-right xs n f a l =
-    slice_get-get_or (xs ++ listed n f) (length xs + a) zero_ℚ (omega (arith, length-append xs (listed n f), length-listed n f)) ∙ ap Some (get_or-append-add xs (listed n f) a zero_ℚ ∙ get_or-listed n f a zero_ℚ l)
+-- ---- one set after another
+module _ (t : Tree) (sets : List ℕ) (s : ℕ) where
+  -- the actions of one set more
+  sum-more : sum (map t.actions (sets ++ s ∷ [])) ≡ sum (map t.actions sets) + t.actions s
+  sum-more =
+      ap sum (map-append t.actions sets (s ∷ [])) ∙ sum-append (map t.actions sets) (t.actions s ∷ [])
+      ∙ omega (arith, sum-cons (t.actions s) [], sum-nil)
 
-module _ (t : Tree) (i n : ℕ) (starts : List ℕ) (next : ℕ) (h : AreStartsTo t i n starts next) where
-  -- the entries of one own set more
-  entries-own : (b : Behaviour) → t.owner n ≡ Some i → entries_to t b i (n + 1) ≡ entries_to t b i n ++ listed (t.actions n) (b n)
-  entries-own b o =
-      let f : ℕ → List ℚ = λ s. listed (t.actions s) (b s) in
-      ap (λ xs. entries_below t b i ++ flat_map f xs) (ap (numbers_with t.owner i) (add-one n) ∙ numbers_with-last t.owner i n o)
-      ∙ ap (λ xs. entries_below t b i ++ xs) (flat_map-append f (numbers_with t.owner i n) (n ∷ []) ∙ ap (λ xs. flat_map f (numbers_with t.owner i n) ++ xs) (append-nil (f n)))
-      ∙ sym (append_assoc (entries_below t b i) (flat_map f (numbers_with t.owner i n)) (f n))
+  -- those of the sets before one are the same
+  take-more : (k : ℕ) → k ≤ length sets → take k (map t.actions sets) ≡ take k (map t.actions (sets ++ s ∷ []))
+  take-more k l =
+      sym (ap (take k) (map-append t.actions sets (s ∷ [])) ∙ take-append-le k (map t.actions sets) (t.actions s ∷ []) (omega (arith, l, length-map sets t.actions)))
 
-  -- the start of one own set more
-  pub starts-own : n < t.sets → t.owner n ≡ Some i → AreStartsTo t i (n + 1) (set starts n next) (next + t.actions n)
-  starts-own l o = record {
-    long = length-set starts n next ∙ h.long;
-    next_is = λ b. ap₂ (λ x y. x + y) (h.next_is b) (sym (length-listed (t.actions n) (b n))) ∙ sym (length-append (entries_to t b i n) (listed (t.actions n) (b n))) ∙ ap length (sym (entries-own b o));
-    stand = λ b s j a k own comes m. subst (λ xs. slice_get xs (get_or (set starts n next) s 0 + a) ≡ Some (b s a)) (sym (entries-own b o)) (elim (cases_eq s n) [
-      | inl same ↦ here b s a same m
-      | inr apart ↦ there b s j a k own m comes apart
-    ]);
-  }
-    where
-      here : (b : Behaviour) (s a : ℕ) → s ≡ n → a < t.actions s → slice_get (entries_to t b i n ++ listed (t.actions n) (b n)) (get_or (set starts n next) s 0 + a) ≡ Some (b s a)
-      here b s a same m =
-          ap (λ x. slice_get (entries_to t b i n ++ listed (t.actions n) (b n)) (x + a)) (ap (λ x. get_or (set starts n next) x 0) same ∙ get_or-set_same starts n next 0 (omega (arith, h.long)) ∙ h.next_is b)
-          ∙ found-right (entries_to t b i n) (t.actions n) (b n) a (subst (λ x. a < t.actions x) same m) ∙ ap (λ x. Some (b x a)) (sym same)
+  -- the start of one set more
+  module _ (i next : ℕ) (starts : List ℕ) (h : AreStartsOf t sets starts) (next_is : next ≡ sum (map t.actions sets)) (apart : IsAmong sets s → ⊥) (below : s < t.sets) (own : t.owner s ≡ Some i) where
+    starts-more : AreStartsOf t (sets ++ s ∷ []) (set starts s next)
+    starts-more = record {
+      long = length-set starts s next ∙ h.long;
+      stand = λ k l. elim (cases_lt k (length sets)) [
+        | inl earlier ↦ there k earlier
+        | inr last ↦ here k (omega (arith, l, last, length-append sets (s ∷ [])))
+      ];
+      chance = λ r l none. get_or-set_other starts s r next 0 (λ same. (let owner : t.owner r ≡ t.owner s = ap t.owner same in cc)) ∙ h.chance r l none;
+    }
+      where
+        there : (k : ℕ) → k < length sets → get_or (set starts s next) (get_or (sets ++ s ∷ []) k 0) 0 ≡ sum (take k (map t.actions (sets ++ s ∷ [])))
+        there k l =
+            ap (λ r. get_or (set starts s next) r 0) (get_or_append_left sets (s ∷ []) 0 k l)
+            ∙ get_or-set_other starts s (get_or sets k 0) next 0 (λ same. apart (subst (IsAmong sets) same (among_at sets k 0 l)))
+            ∙ h.stand k l ∙ ap sum (take-more k (omega (arith, l)))
 
-      there : (b : Behaviour) (s j a : ℕ) → s < t.sets → t.owner s ≡ Some j → a < t.actions s → ComesTo i (n + 1) j s → s ≢ n → slice_get (entries_to t b i n ++ listed (t.actions n) (b n)) (get_or (set starts n next) s 0 + a) ≡ Some (b s a)
-      there b s j a k own m comes apart =
-          ap (λ x. slice_get (entries_to t b i n ++ listed (t.actions n) (b n)) (x + a)) (get_or-set_other starts n s next 0 apart)
-          ∙ slice_get-longer (entries_to t b i n) _ (get_or starts s 0 + a) (b s a) (h.stand b s j a k own (elim comes [ inl earlier ↦ inl earlier | inr now ↦ inr (now.0, omega (arith, now.1)) ]) m)
+        here : (k : ℕ) → k ≡ length sets → get_or (set starts s next) (get_or (sets ++ s ∷ []) k 0) 0 ≡ sum (take k (map t.actions (sets ++ s ∷ [])))
+        here k last =
+            ap (λ r. get_or (set starts s next) r 0) (get_or_at sets s [] 0 k (sym last))
+            ∙ get_or-set_same starts s next 0 (omega (arith, below, h.long)) ∙ next_is
+            ∙ ap sum (sym (take_all k (map t.actions sets) (omega (arith, last, length-map sets t.actions))) ∙ take-more k (omega (arith, last)))
 
-  -- at another set there is none
-  pub starts-other : t.owner n ≢ Some i → AreStartsTo t i (n + 1) starts next
-  starts-other o = record {
-    long = h.long;
-    next_is = λ b. h.next_is b ∙ ap length (sym (entries-other b));
-    stand = λ b s j a k own comes m. subst (λ xs. slice_get xs (get_or starts s 0 + a) ≡ Some (b s a)) (sym (entries-other b)) (h.stand b s j a k own (earlier s j own comes) m);
-  }
-    where
-      entries-other : (b : Behaviour) → entries_to t b i (n + 1) ≡ entries_to t b i n
-      entries-other b = ap (λ xs. entries_below t b i ++ flat_map (λ s. listed (t.actions s) (b s)) xs) (ap (numbers_with t.owner i) (add-one n) ∙ numbers_with-other t.owner i n o)
+-- ---- a player's sets
+-- of ascending sets none stands before its place
+not-before : (n : ℕ) (sets : List ℕ) (place s : ℕ) → AscendFrom n sets → slice_get sets place ≡ Some s → IsAmong (take place sets) s → ⊥
+not-before n [] place s o at among = cc
+not-before n (x ∷ sets) zero s o at among = among
+not-before n (x ∷ sets) (suc place) s o at (inl same) = absurd (omega (arith, same, IsAmong-from (suc x) sets s o.1 (among-place sets place s at)))
+not-before n (x ∷ sets) (suc place) s o at (inr among) = not-before (suc x) sets place s o.1 at among
 
-      earlier : (s j : ℕ) → t.owner s ≡ Some j → ComesTo i (n + 1) j s → ComesTo i n j s
-      earlier s j own (inl before) = inl before
-      earlier s j own (inr now) = elim (cases_eq s n) [ inl same ↦ absurd (o (ap t.owner (sym same) ∙ own ∙ ap Some now.0)) | inr apart ↦ inr (now.0, omega (arith, now.1)) ]
+-- the sets of the players before player i, and the first of this player's own
+abbrev pub sets_to : Tree → ℕ → ℕ → List ℕ
+sets_to t i place = sets_below t i ++ take place (own_sets t i)
 
--- one player more
-pub starts-player : (t : Tree) (i : ℕ) (starts : List ℕ) (next : ℕ) → AreStartsTo t i t.sets starts next → AreStartsTo t (i + 1) 0 starts next
-starts-player t i starts next h = record {
-  long = h.long;
-  next_is = λ b. h.next_is b ∙ ap length (sym (entries-next b));
-  stand = λ b s j a k own comes m. subst (λ xs. slice_get xs (get_or starts s 0 + a) ≡ Some (b s a)) (sym (entries-next b)) (h.stand b s j a k own (earlier s j k comes) m);
-}
-  where
-    entries-next : (b : Behaviour) → entries_to t b (i + 1) 0 ≡ entries_to t b i t.sets
-    entries-next b =
-        append-nil (entries_below t b (i + 1)) ∙ ap (entries_below t b) (add-one i) ∙ made-next (own_entries t b) i
+-- with none of them
+pub sets_to-none : (t : Tree) (i : ℕ) → sets_to t i 0 ≡ sets_below t i
+sets_to-none t i = append-nil (sets_below t i)
 
-    earlier : (s j : ℕ) → s < t.sets → ComesTo (i + 1) 0 j s → ComesTo i t.sets j s
-    earlier s j k (inl before) = elim (cases_eq j i) [ inl same ↦ inr (same, k) | inr apart ↦ inl (omega arith) ]
-    earlier s j k (inr now) = absurd (omega (arith, now.1))
+-- with all of them
+pub sets_to-all : (t : Tree) (i place : ℕ) → take place (own_sets t i) ≡ own_sets t i → sets_to t i place ≡ sets_below t (i + 1)
+sets_to-all t i place all =
+    ap (λ sets. sets_below t i ++ sets) all ∙ sym (ap (sets_below t) (add-one i) ∙ made-next (own_sets t) i)
 
--- all players
-pub starts-all : (t : Tree) (n : ℕ) (starts : List ℕ) (next : ℕ) → IsTree t → n ≡ t.players → AreStartsTo t n 0 starts next → AreStarts t starts
-starts-all t n starts next w all h = record {
-  long = h.long;
-  stand = λ b s i a l o m. subst (λ xs. slice_get xs (get_or starts s 0 + a) ≡ Some (b s a)) (append-nil (entries_below t b n) ∙ ap (entries_below t b) all) (h.stand b s i a l o (inl (omega (arith, w.owners_within s i l o))) m);
-}
+module _ (t : Tree) (i place s : ℕ) (at : slice_get (own_sets t i) place ≡ Some s) where
+  -- with one more
+  sets_to-next : sets_to t i (place + 1) ≡ sets_to t i place ++ s ∷ []
+  sets_to-next =
+      ap (λ sets. sets_below t i ++ sets) (taken (own_sets t i) place s at) ∙ sym (append_assoc (sets_below t i) (take place (own_sets t i)) (s ∷ []))
 
-module _ (t : Tree) (starts : List ℕ) (entries : List ℚ) (b : Behaviour) (h : AreStarts t starts) (is : entries ≡ tree_entries t b) where
-  -- the entries of a set are there
-  pub starts-within : (s i : ℕ) → IsTree t → s < t.sets → t.owner s ≡ Some i → get_or starts s 0 + t.actions s ≤ length entries
-  starts-within s i w l o =
-      let some = w.some_action s l in
-      let last = h.stand b s i (t.actions s - 1) l o (omega (arith, some)) in
-      let within = slice_get_within (tree_entries t b) (get_or starts s 0 + (t.actions s - 1)) (b s (t.actions s - 1)) last in
-      omega (arith, within, some, ap length is)
+  own : (s < t.sets) × (t.owner s ≡ Some i)
+  own = own_sets-tell t i s (among-place (own_sets t i) place s at)
+
+  -- it is none of those before
+  set-apart : IsAmong (sets_to t i place) s → ⊥
+  set-apart among =
+      elim (IsAmong-parts (sets_below t i) (take place (own_sets t i)) s among) [
+        | inl earlier ↦ (let before = below-tells t i s earlier in
+            let owner = own.1 in
+            let same : before.0 ≡ i = cc in
+            absurd (omega (arith, same, before.1)))
+        | inr now ↦ not-before 0 (own_sets t i) place s (own_sets-ascend t i) at now
+      ]
+
+  -- its start is written
+  pub starts-next : (starts : List ℕ) (next : ℕ) → AreStartsOf t (sets_to t i place) starts → next ≡ sum (map t.actions (sets_to t i place)) → AreStartsOf t (sets_to t i (place + 1)) (set starts s next)
+  starts-next starts next h next_is =
+      subst (λ sets. AreStartsOf t sets (set starts s next)) (sym sets_to-next) (starts-more t (sets_to t i place) s i next starts h next_is set-apart own.0 own.1)
+
+  -- the next start is past its actions
+  pub next-start : (next : ℕ) → next ≡ sum (map t.actions (sets_to t i place)) → next + t.actions s ≡ sum (map t.actions (sets_to t i (place + 1)))
+  next-start next next_is =
+      (let more : next + t.actions s ≡ sum (map t.actions (sets_to t i place ++ s ∷ [])) = omega (arith, next_is, sum-more t (sets_to t i place) s) in
+      more ∙ ap (λ sets. sum (map t.actions sets)) (sym sets_to-next))
+
+  -- and not past all actions
+  pub next-within : i < t.players → sum (map t.actions (sets_to t i place)) + t.actions s ≤ sum (action_counts t)
+  next-within l =
+      let counted = slice_get-map t.actions (own_sets t i) place ∙ ap (option_map t.actions) at in
+      let both = ap sum (map-append t.actions (sets_below t i) (take place (own_sets t i))) ∙ sum-append (map t.actions (sets_below t i)) (map t.actions (take place (own_sets t i))) in
+      let first = ap sum (take-map t.actions place (own_sets t i)) in
+      omega (arith, both, first, end-within (own_counts t i) place (t.actions s) counted, total-within t i l)
+
+-- ---- the entries of behaviour
+-- those of a set stand after those of the sets before it
+entry_at-place : (t : Tree) (b : Behaviour) (k a : ℕ) → k < length (player_sets t) → a < t.actions (get_or (player_sets t) k 0) → entry_at (tree_entries t b) (sum (take k (action_counts t)) + a) ≡ b (get_or (player_sets t) k 0) a
+entry_at-place t b k a l m =
+    let sizes = action_counts t in
+    let entries_are = all_entries t b in
+    let long = ap length entries_are ∙ length-entries sizes (by_place t b (player_sets t)) in
+    entries-injective sizes (mixed_of sizes (tree_entries t b)) (by_place t b (player_sets t)) (entries-mixed_of sizes (tree_entries t b) long ∙ entries_are) k a
+    (omega (arith, l, counts-long t)) (subst (λ n. a < n) (sym (count-at t k l)) m)
+
+module _ (t : Tree) (w : IsTree t) (s i : ℕ) (below : s < t.sets) (own : t.owner s ≡ Some i) where
+  -- the place of a player's set among those of all players
+  pub set-place : (k : ℕ) × (k < length (player_sets t)) × (get_or (player_sets t) k 0 ≡ s)
+  set-place = index_of (player_sets t) s (player_sets-has t s i w below own)
+
+  -- the place of its first entry
+  abbrev pub first_entry : ℕ
+  first_entry = sum (take set-place.0 (action_counts t))
+
+  -- its entries are there
+  pub entries-within : (b : Behaviour) → first_entry + t.actions s ≤ length (tree_entries t b)
+  entries-within b =
+      let k = set-place.0 in
+      let sizes = action_counts t in
+      let within : k < length sizes = omega (arith, set-place.1, counts-long t) in
+      let counted = slice_get-get_or sizes k 0 within ∙ ap Some (count-at t k set-place.1 ∙ ap t.actions set-place.2) in
+      let long = ap length (all_entries t b) ∙ length-entries sizes (by_place t b (player_sets t)) in
+      omega (arith, long, end-within sizes k (t.actions s) counted)
 
   -- and they are the behaviour's
-  pub starts-read : (s i a : ℕ) → s < t.sets → t.owner s ≡ Some i → a < t.actions s → get_or entries (get_or starts s 0 + a) zero_ℚ ≡ b s a
-  starts-read s i a l o m = ap (λ xs. get_or xs (get_or starts s 0 + a) zero_ℚ) is ∙ get_or_from_slice_get (tree_entries t b) (get_or starts s 0 + a) (b s a) zero_ℚ (h.stand b s i a l o m)
+  pub entries-read : (b : Behaviour) (a : ℕ) → a < t.actions s → entry_at (tree_entries t b) (first_entry + a) ≡ b s a
+  entries-read b a l =
+      entry_at-place t b set-place.0 a set-place.1 (subst (λ r. a < t.actions r) (sym set-place.2) l) ∙ ap (λ r. b r a) set-place.2
+
+  -- the set's start is this place
+  pub start-is : (starts : List ℕ) → AreStarts t starts → get_or starts s 0 ≡ first_entry
+  start-is starts h = ap (λ r. get_or starts r 0) (sym set-place.2) ∙ h.stand set-place.0 set-place.1
+
+module _ (t : Tree) (starts : List ℕ) (entries : List ℚ) (b : Behaviour) (w : IsTree t) (h : AreStarts t starts) (is : entries ≡ tree_entries t b) where
+  -- the entries of a set are there
+  pub starts-within : (s i : ℕ) → s < t.sets → t.owner s ≡ Some i → get_or starts s 0 + t.actions s ≤ length entries
+  starts-within s i l o = omega (arith, entries-within t w s i l o b, start-is t w s i l o starts h, ap length is)
+
+  -- and they are the behaviour's
+  pub starts-read : (s i a : ℕ) → s < t.sets → t.owner s ≡ Some i → a < t.actions s → entry_at entries (get_or starts s 0 + a) ≡ b s a
+  starts-read s i a l o m = ap₂ (λ list start. entry_at list (start + a)) is (start-is t w s i l o starts h) ∙ entries-read t w s i l o b a m

@@ -8,7 +8,7 @@ use Rattle.std.proofs.lemmas.List.Sums.{sum_by-cons}
 use Rattle.std.proofs.lemmas.Option.{slice_get_within, get_or_from_slice_get}
 use Rattle.rational.specs.Rational.{ℚ}
 use Rattle.behaviour_profile.specs.declared.entries.ProfileFault.{ProfileFault}
-use Rattle.behaviour_profile.specs.EntryTests.{Passes, group_tests, tests_from}
+use Rattle.behaviour_profile.specs.EntryTests.{TestHolds, group_tests, tests_from}
 use Rattle.behaviour_profile.proofs.FirstFaultLemmas.{fault-more, fault-following, tests_in}
 
 pub sum-nil : sum [] ≡ 0
@@ -31,10 +31,10 @@ module _ (entries : List ℚ) where
       ∙ ap₂ (λ p g. tests_from entries (place + x) (suc group) xs ++ tests_from entries p g ys) (omega (arith, sum-cons x xs)) (omega arith))
       ∙ sym (append_assoc (group_tests entries place group x) _ _)
 
-  module _ (place group : ℕ) (xs ys : List ℕ) (passed : All Passes (tests_from entries place group xs)) where
+  module _ (place group : ℕ) (xs ys : List ℕ) (passed : All TestHolds (tests_from entries place group xs)) where
     -- groups pass with those before them
-    pub groups_pass : All Passes (tests_from entries (place + sum xs) (group + length xs) ys) → All Passes (tests_from entries place group (xs ++ ys))
-    groups_pass h = subst (All Passes) (sym (tests-append place group xs ys)) (All-append Passes _ _ passed h)
+    pub groups_pass : All TestHolds (tests_from entries (place + sum xs) (group + length xs) ys) → All TestHolds (tests_from entries place group (xs ++ ys))
+    groups_pass h = subst (All TestHolds) (sym (tests-append place group xs ys)) (All-append TestHolds _ _ passed h)
 
     -- and the first fault after groups that pass is the first of all
     pub groups_fault : (fault : ProfileFault) → tests_in (tests_from entries (place + sum xs) (group + length xs) ys) (Err fault) → tests_in (tests_from entries place group (xs ++ ys)) (Err fault)
@@ -46,7 +46,7 @@ module _ (entries : List ℚ) where
 
 -- ---- the groups before one
 module _ (sizes : List ℕ) (k n : ℕ) (at : slice_get sizes k ≡ Some n) where
-  taken : take (k + 1) sizes ≡ take k sizes ++ n ∷ []
+  pub taken : take (k + 1) sizes ≡ take k sizes ++ n ∷ []
   taken = take_more sizes k 0 (slice_get_within sizes k n at) ∙ ap (λ v. take k sizes ++ v ∷ []) (get_or_from_slice_get sizes k n 0 at)
 
   -- with it, and those after
@@ -70,15 +70,15 @@ module _ (sizes : List ℕ) (k n : ℕ) (at : slice_get sizes k ≡ Some n) wher
   pub length-taken : length (take k sizes) ≡ k
   length-taken = length-take-le k sizes (omega (arith, number-within))
 
-  module _ (entries : List ℚ) (place group p g : ℕ) (place_is : p ≡ place + sum (take k sizes)) (group_is : g ≡ group + k) (passed : All Passes (tests_from entries place group (take k sizes))) where
+  module _ (entries : List ℚ) (place group p g : ℕ) (place_is : p ≡ place + sum (take k sizes)) (group_is : g ≡ group + k) (passed : All TestHolds (tests_from entries place group (take k sizes))) where
     here : group_tests entries p g n ≡ group_tests entries (place + sum (take k sizes)) (group + length (take k sizes)) n
     here = ap₂ (λ x y. group_tests entries x y n) place_is (group_is ∙ ap (λ x. group + x) (sym length-taken))
 
     one_group : group_tests entries p g n ≡ tests_from entries (place + sum (take k sizes)) (group + length (take k sizes)) (n ∷ [])
     one_group = here ∙ sym (append-nil _)
 
-    pub next_passes : All Passes (group_tests entries p g n) → All Passes (tests_from entries place group (take (k + 1) sizes))
-    next_passes h = subst (λ v. All Passes (tests_from entries place group v)) (sym taken) (groups_pass entries place group (take k sizes) (n ∷ []) passed (subst (All Passes) one_group h))
+    pub next_passes : All TestHolds (group_tests entries p g n) → All TestHolds (tests_from entries place group (take (k + 1) sizes))
+    next_passes h = subst (λ v. All TestHolds (tests_from entries place group v)) (sym taken) (groups_pass entries place group (take k sizes) (n ∷ []) passed (subst (All TestHolds) one_group h))
 
     pub next_fault : (fault : ProfileFault) → tests_in (group_tests entries p g n) (Err fault) → tests_in (tests_from entries place group sizes) (Err fault)
     next_fault fault h =

@@ -12,7 +12,7 @@ use Rattle.game_theory.specs.OwnSets.{own_sets}
 use Rattle.game_theory.specs.TreeEntries.{own_entries, entries_below, tree_entries}
 use Rattle.sequence_forms.specs.PlanBehaviour.{behaviour_of}
 use Rattle.sequence_forms.proofs.SequenceLemmas.{own_set-is}
-use Rattle.game_core.specs.Tree.{GameTree}
+use Rattle.game_core.specs.Tree.{GameTree, label_of}
 use Rattle.game_core.specs.TreeGame.{game_of_tree}
 use Rattle.frac128.specs.FirstUnfit.{StepsFit}
 use Rattle.frac128.proofs.FirstUnfitLemmas.{all_fit-single}
@@ -21,7 +21,7 @@ use Rattle.sequence_data.specs.declared.types.SetRow.{SetRow}
 use Rattle.sequence_form.specs.Sequences.{own_set_row}
 use Rattle.behaviour_profile.specs.declared.plans.BehaviourStop.{BehaviourStop}
 use Rattle.behaviour_profile.specs.declared.plans.BehaviourStop.TheVariants as stops
-use Rattle.behaviour_profile.specs.Plans.{actions_at, both_plans, label_of, own_actions, own_quotients_in, plan_behaviour, quotient_steps, quotient_stop}
+use Rattle.behaviour_profile.specs.Plans.{actions_at, both_plans, own_actions, own_quotients_in, plan_behaviour, quotient_steps, quotient_stop}
 use Rattle.behaviour_profile.specs.Shares.{actions_of, share_at, shares_in, steps_at}
 use Rattle.behaviour_profile.proofs.BehaviourEntryLemmas.{entries_at, entries_at-push}
 use Rattle.behaviour_profile.proofs.PlanShareLemmas.{shares_are, quotients_fit, first_quotient}

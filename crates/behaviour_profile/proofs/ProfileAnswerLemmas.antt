@@ -7,7 +7,7 @@ use Rattle.answers.proofs.AnswerLemmas.{bind-single, only-single, refuse_where-s
 use Rattle.rational.specs.Rational.{ℚ}
 use Rattle.behaviour_profile.specs.declared.entries.ProfileFault.{ProfileFault}
 use Rattle.behaviour_profile.specs.declared.entries.ProfileFault.TheVariants as faults
-use Rattle.behaviour_profile.specs.EntryTests.{Passes, all_pass, fault_of, profile_in, tests_from}
+use Rattle.behaviour_profile.specs.EntryTests.{TestHolds, all_pass, fault_of, profile_in, tests_from}
 use Rattle.behaviour_profile.proofs.FirstFaultLemmas.{all_pass-single, tests_in}
 
 module _ (sizes : List ℕ) (entries : List ℚ) where
@@ -23,7 +23,7 @@ module _ (sizes : List ℕ) (entries : List ℚ) where
   tests_refused fault right h = inr (tt, (λ wrong. wrong right), inl h)
 
   -- entries that pass
-  pub entries_pass : length entries ≡ sum sizes → All Passes (tests_from entries 0 0 sizes) → profile_in sizes entries (Ok entries)
+  pub entries_pass : length entries ≡ sum sizes → All TestHolds (tests_from entries 0 0 sizes) → profile_in sizes entries (Ok entries)
   entries_pass right passed = (tt, (λ wrong. wrong right), (tt, passed, refl))
 
   -- ---- what an answer tells
@@ -33,7 +33,7 @@ module _ (sizes : List ℕ) (entries : List ℚ) where
     | inr wrong ↦ absurd (h.1 wrong)
   ]
 
-  pub passed_tests : (tested : List ℚ) → profile_in sizes entries (Ok tested) → All Passes (tests_from entries 0 0 sizes)
+  pub passed_tests : (tested : List ℚ) → profile_in sizes entries (Ok tested) → All TestHolds (tests_from entries 0 0 sizes)
   passed_tests tested h = h.2.1
 
   -- the entries are answered themselves

@@ -7,7 +7,7 @@ use Rattle.std.proofs.lemmas.List.FromFn.{get_or-range_with_len, length-range_wi
 use Rattle.rational.specs.Rational.{ℚ, ◌*ℚ◌, inv_ℚ, frac, zero_ℚ}
 use Rattle.rational.specs.Tests.{eq_ℚ}
 use Rattle.rational.proofs.Decide.{eq_ℚ-decides}
-use Rattle.frac128.specs.Steps.{DivFits, unfit, Step, StepFits, IsFirstUnfit, StepsGive}
+use Rattle.frac128.specs.Steps.{DivFits, step_of, Step, StepFits, IsFirstUnfit, StepsGive}
 use Rattle.frac128.specs.declared.steps.Op.TheVariants.{Div}
 use Rattle.game_theory.specs.Lines.{listed}
 use Rattle.game_theory.proofs.EntryLemmas.{listed-push}
@@ -38,7 +38,7 @@ module _ (n : ℕ) (before after : ℚ) where
   share-none e = ap (λ b. if b then frac (pos 1) n else after *ℚ inv_ℚ before) (test-zero before e)
 
   none_fit : before ≡ zero_ℚ → All StepFits (share_steps before after)
-  none_fit e = subst (λ b. All StepFits (if b then [] else unfit Div after before ∷ [])) (sym (test-zero before e)) (All-nil StepFits)
+  none_fit e = subst (λ b. All StepFits (if b then [] else step_of Div after before ∷ [])) (sym (test-zero before e)) (All-nil StepFits)
 
   pub equal_share : before ≡ zero_ℚ → (v : ℚ) → v ≡ frac (pos 1) n → StepsGive (share_steps before after) (share n before after) (Ok v)
   equal_share e v is = (is ∙ sym (share-none e), none_fit e)
@@ -47,14 +47,14 @@ module _ (n : ℕ) (before after : ℚ) where
   share-is : before ≢ zero_ℚ → share n before after ≡ after *ℚ inv_ℚ before
   share-is ne = ap (λ b. if b then frac (pos 1) n else after *ℚ inv_ℚ before) (test-other before ne)
 
-  share-steps : before ≢ zero_ℚ → share_steps before after ≡ unfit Div after before ∷ []
-  share-steps ne = ap (λ b. if b then [] else unfit Div after before ∷ []) (test-other before ne)
+  share-steps : before ≢ zero_ℚ → share_steps before after ≡ step_of Div after before ∷ []
+  share-steps ne = ap (λ b. if b then [] else step_of Div after before ∷ []) (test-other before ne)
 
   -- and the quotient fits, or it is the first step that does not
-  pub divided_share : before ≢ zero_ℚ → (r : Result ℚ Step) → IfOk r (λ v. v ≡ after *ℚ inv_ℚ before) → OnOk r (DivFits after before) → IfErr r (λ e. e ≡ unfit Div after before) → OnErr r (¬ (DivFits after before)) → StepsGive (share_steps before after) (share n before after) r
-  divided_share ne (Ok v) value fits step unfits = (value ∙ sym (share-is ne), subst (All StepFits) (sym (share-steps ne)) (one-fits (unfit Div after before) fits))
+  pub divided_share : before ≢ zero_ℚ → (r : Result ℚ Step) → IfOk r (λ v. v ≡ after *ℚ inv_ℚ before) → OnOk r (DivFits after before) → IfErr r (λ e. e ≡ step_of Div after before) → OnErr r (¬ (DivFits after before)) → StepsGive (share_steps before after) (share n before after) r
+  divided_share ne (Ok v) value fits step unfits = (value ∙ sym (share-is ne), subst (All StepFits) (sym (share-steps ne)) (one-fits (step_of Div after before) fits))
   divided_share ne (Err u) value fits step unfits =
-      subst₂ (λ (ss : List Step) (e : Step). IsFirstUnfit ss e) (sym (share-steps ne)) (sym step) (first_unfit-here (unfit Div after before) [] unfits)
+      subst₂ (λ (ss : List Step) (e : Step). IsFirstUnfit ss e) (sym (share-steps ne)) (sym step) (first_unfit-here (step_of Div after before) [] unfits)
 
 -- ---- the shares of a set
 -- a weight that is read

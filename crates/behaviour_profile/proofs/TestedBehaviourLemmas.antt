@@ -1,10 +1,9 @@
 -- Entries whose tests are all passed are those of valid behaviour on a tree.
 use Rattle.std.proofs.Common.{ℕ, zero, suc, ◌<◌, ◌≡◌, ◌⊎◌, inl, inr, Bool, true, false, Decides, Some, List, [], ◌∷◌, ◌++◌, length, map, get_or, Ok, refl, sym, ap, ◌∙◌, subst, arith}
 use Rattle.std.specs.Prelude.{◌==◌, if◌then◌else◌}
-use Rattle.std.specs.List.{range_with_len, flat_map}
 use Rattle.std.proofs.lemmas.Bool.Decides.{Decides-eqb}
 use Rattle.std.proofs.lemmas.Grind.{flat_map-append}
-use Rattle.std.proofs.lemmas.List.{map-append, get_or-map, length-map}
+use Rattle.std.proofs.lemmas.List.{get_or-map, length-map}
 use Rattle.rational.specs.Rational.{ℚ, ◌≤ℚ◌, zero_ℚ, one_ℚ}
 use Rattle.rational.specs.Sum.{sum_to}
 use Rattle.game_theory.specs.Lines.{listed, entries}
@@ -12,10 +11,11 @@ use Rattle.game_theory.specs.Mixed.{Mixed, IsValid as is_valid_profile, later}
 use Rattle.game_theory.proofs.ProfileLineLemmas.{entries-same}
 use Rattle.game_theory.specs.Trees.{Tree, IsTree}
 use Rattle.game_theory.specs.Behaviour.{Behaviour, IsValid}
-use Rattle.game_theory.specs.OwnSets.{own_sets, own_counts}
+use Rattle.game_theory.specs.OwnSets.{action_counts, own_sets, player_sets}
 use Rattle.game_theory.specs.TreeEntries.{own_entries, tree_entries, entries_below}
 use Rattle.game_theory.proofs.OwnSetLemmas.{AscendFrom, IsAmong, IsAmong-from, IsAmong-left, IsAmong-parts, IsAmong-right, own_sets-ascend, own_sets-has, own_sets-tell}
-use Rattle.behaviour_profile.specs.EntryTests.{action_counts, profile_in}
+use Rattle.behaviour_profile.specs.EntryStarts.{sets_below}
+use Rattle.behaviour_profile.specs.EntryTests.{profile_in}
 use Rattle.behaviour_profile.specs.EntryLaws.{AdditionsFit, TestedEntriesAreBehaviours}
 use Rattle.behaviour_profile.proofs.BehaviourEntryLemmas.{entries_at}
 use Rattle.lists.proofs.ElementLemmas.{made-next}
@@ -69,101 +69,89 @@ place-at (x ∷ xs) (suc k) r l = go (get_or xs k 0) (x == get_or xs k 0) (Decid
 
 -- ---- the players' sets
 module _ (t : Tree) where
-  abbrev sets_below : ℕ → List ℕ
-  sets_below p = flat_map (own_sets t) (range_with_len 0 p)
-
-  abbrev all_sets : List ℕ
-  all_sets = sets_below t.players
-
-  below-tells : (p s : ℕ) → IsAmong (sets_below p) s → (i : ℕ) × (i < p) × (s < t.sets) × (t.owner s ≡ Some i)
+  pub below-tells : (p s : ℕ) → IsAmong (sets_below t p) s → (i : ℕ) × (i < p) × (s < t.sets) × (t.owner s ≡ Some i)
   below-tells zero s h = absurd h
-  below-tells (suc p) s h = elim (IsAmong-parts (sets_below p) (own_sets t p) s (subst (λ v. IsAmong v s) (made-next (own_sets t) p) h)) [
+  below-tells (suc p) s h = elim (IsAmong-parts (sets_below t p) (own_sets t p) s (subst (λ v. IsAmong v s) (made-next (own_sets t) p) h)) [
     | inl a ↦ (let b = below-tells p s a in (b.0, omega (arith, b.1), b.2, b.3))
     | inr a ↦ (let o = own_sets-tell t p s a in (p, omega arith, o.0, o.1))
   ]
 
-  below-has : (p s i : ℕ) → i < p → s < t.sets → t.owner s ≡ Some i → IsAmong (sets_below p) s
+  below-has : (p s i : ℕ) → i < p → s < t.sets → t.owner s ≡ Some i → IsAmong (sets_below t p) s
   below-has zero s i l b o = absurd (omega (arith, l))
   below-has (suc p) s i l b o = subst (λ v. IsAmong v s) (sym (made-next (own_sets t) p)) (go (i == p) (Decides-eqb i p) (λ earlier. below-has p s i earlier b o))
     where
-      go : (c : Bool) → Decides c (i ≡ p) → (i < p → IsAmong (sets_below p) s) → IsAmong (sets_below p ++ own_sets t p) s
-      go true d h = IsAmong-right (sets_below p) (own_sets t p) s (own_sets-has t p s b (o ∙ ap Some (d.0 refl)))
-      go false d h = (let other : i ≡ p → ⊥ = λ e. (let yes = d.1 e in cc) in IsAmong-left (sets_below p) (own_sets t p) s (h (omega (arith, l, other))))
+      go : (c : Bool) → Decides c (i ≡ p) → (i < p → IsAmong (sets_below t p) s) → IsAmong (sets_below t p ++ own_sets t p) s
+      go true d h = IsAmong-right (sets_below t p) (own_sets t p) s (own_sets-has t p s b (o ∙ ap Some (d.0 refl)))
+      go false d h = (let other : i ≡ p → ⊥ = λ e. (let yes = d.1 e in cc) in IsAmong-left (sets_below t p) (own_sets t p) s (h (omega (arith, l, other))))
 
-  no_repetition : (p : ℕ) → HasNoRepetition (sets_below p)
+  no_repetition : (p : ℕ) → HasNoRepetition (sets_below t p)
   no_repetition zero = tt
-  no_repetition (suc p) = subst HasNoRepetition (sym (made-next (own_sets t) p)) (apart (sets_below p) (own_sets t p) (no_repetition p) (ascending 0 (own_sets t p) (own_sets-ascend t p)) different)
+  no_repetition (suc p) = subst HasNoRepetition (sym (made-next (own_sets t) p)) (apart (sets_below t p) (own_sets t p) (no_repetition p) (ascending 0 (own_sets t p) (own_sets-ascend t p)) different)
     where
-      different : (s : ℕ) → IsAmong (sets_below p) s → IsAmong (own_sets t p) s → ⊥
+      different : (s : ℕ) → IsAmong (sets_below t p) s → IsAmong (own_sets t p) s → ⊥
       different s a b = (let x = below-tells p s a in let y = own_sets-tell t p s b in let same : x.0 ≡ p = cc in let l = x.1 in absurd (omega (arith, same, l)))
-
-  counts-below : (p : ℕ) → flat_map (own_counts t) (range_with_len 0 p) ≡ map t.actions (sets_below p)
-  counts-below zero = refl
-  counts-below (suc p) =
-      made-next (own_counts t) p ∙ ap (λ v. v ++ own_counts t p) (counts-below p) ∙ sym (map-append t.actions (sets_below p) (own_sets t p))
-      ∙ ap (map t.actions) (sym (made-next (own_sets t) p))
 
   module _ (b : Behaviour) where
     entries-append : (xs ys : List ℕ) → entries_at t b (xs ++ ys) ≡ entries_at t b xs ++ entries_at t b ys
     entries-append xs ys = flat_map-append (λ s. listed (t.actions s) (b s)) xs ys
 
-    entries-below : (p : ℕ) → entries_below t b p ≡ entries_at t b (sets_below p)
+    entries-below : (p : ℕ) → entries_below t b p ≡ entries_at t b (sets_below t p)
     entries-below zero = refl
     entries-below (suc p) =
         made-next (own_entries t b) p ∙ ap (λ v. v ++ entries_at t b (own_sets t p)) (entries-below p)
-        ∙ sym (entries-append (sets_below p) (own_sets t p)) ∙ ap (entries_at t b) (sym (made-next (own_sets t) p))
+        ∙ sym (entries-append (sets_below t p) (own_sets t p)) ∙ ap (entries_at t b) (sym (made-next (own_sets t) p))
 
     -- the entries at sets are those of a mixed profile
-    abbrev by_place : List ℕ → Mixed
+    abbrev pub by_place : List ℕ → Mixed
     by_place sets k = b (get_or sets k 0)
 
     entries-by_place : (sets : List ℕ) → entries_at t b sets ≡ entries (map t.actions sets) (by_place sets)
     entries-by_place [] = refl
     entries-by_place (s ∷ sets) = ap (λ v. listed (t.actions s) (b s) ++ v) (entries-by_place sets)
 
-    all_entries : tree_entries t b ≡ entries (action_counts t) (by_place all_sets)
-    all_entries = entries-below t.players ∙ entries-by_place all_sets ∙ ap (λ ns. entries ns (by_place all_sets)) (sym (counts-below t.players))
+    pub all_entries : tree_entries t b ≡ entries (action_counts t) (by_place (player_sets t))
+    all_entries = entries-below t.players ∙ entries-by_place (player_sets t)
 
-  counts-long : length (action_counts t) ≡ length all_sets
-  counts-long = ap length (counts-below t.players) ∙ length-map all_sets t.actions
+  pub counts-long : length (action_counts t) ≡ length (player_sets t)
+  counts-long = length-map (player_sets t) t.actions
 
-  count-at : (k : ℕ) → k < length all_sets → get_or (action_counts t) k 0 ≡ t.actions (get_or all_sets k 0)
-  count-at k l = ap (λ v. get_or v k 0) (counts-below t.players) ∙ get_or-map t.actions all_sets k 0 0 l
+  pub count-at : (k : ℕ) → k < length (player_sets t) → get_or (action_counts t) k 0 ≡ t.actions (get_or (player_sets t) k 0)
+  count-at k l = get_or-map t.actions (player_sets t) k 0 0 l
 
   -- valid behaviour is a valid profile
-  valid-profile : (b : Behaviour) → IsValid t b → is_valid_profile (action_counts t) (by_place b all_sets)
+  valid-profile : (b : Behaviour) → IsValid t b → is_valid_profile (action_counts t) (by_place b (player_sets t))
   valid-profile b v = record { not_negative = positive; sum_is_one = total }
     where
-      positive : (k a : ℕ) → k < length (action_counts t) → a < get_or (action_counts t) k 0 → zero_ℚ ≤ℚ by_place b all_sets k a
+      positive : (k a : ℕ) → k < length (action_counts t) → a < get_or (action_counts t) k 0 → zero_ℚ ≤ℚ by_place b (player_sets t) k a
       positive k a l h =
-          (let within : k < length all_sets = omega (arith, l, counts-long) in
-          let o = below-tells t.players (get_or all_sets k 0) (among-at all_sets k within) in
-          v.not_negative (get_or all_sets k 0) o.0 a o.2 o.3 (subst (λ n. a < n) (count-at k within) h))
+          (let within : k < length (player_sets t) = omega (arith, l, counts-long) in
+          let o = below-tells t.players (get_or (player_sets t) k 0) (among-at (player_sets t) k within) in
+          v.not_negative (get_or (player_sets t) k 0) o.0 a o.2 o.3 (subst (λ n. a < n) (count-at k within) h))
 
-      total : (k : ℕ) → k < length (action_counts t) → sum_to (get_or (action_counts t) k 0) (by_place b all_sets k) ≡ one_ℚ
+      total : (k : ℕ) → k < length (action_counts t) → sum_to (get_or (action_counts t) k 0) (by_place b (player_sets t) k) ≡ one_ℚ
       total k l =
-          (let within : k < length all_sets = omega (arith, l, counts-long) in
-          let o = below-tells t.players (get_or all_sets k 0) (among-at all_sets k within) in
-          ap (λ n. sum_to n (by_place b all_sets k)) (count-at k within) ∙ v.sum_is_one (get_or all_sets k 0) o.0 o.2 o.3)
+          (let within : k < length (player_sets t) = omega (arith, l, counts-long) in
+          let o = below-tells t.players (get_or (player_sets t) k 0) (among-at (player_sets t) k within) in
+          ap (λ n. sum_to n (by_place b (player_sets t) k)) (count-at k within) ∙ v.sum_is_one (get_or (player_sets t) k 0) o.0 o.2 o.3)
 
   -- the behaviour of a profile
   abbrev behaviour_of : Mixed → Behaviour
-  behaviour_of m s = m (place_in all_sets s)
+  behaviour_of m s = m (place_in (player_sets t) s)
 
   valid-behaviour : (m : Mixed) → IsTree t → is_valid_profile (action_counts t) m → IsValid t (behaviour_of m)
   valid-behaviour m w v = record { not_negative = positive; sum_is_one = total }
     where
-      found : (s i : ℕ) → s < t.sets → t.owner s ≡ Some i → (place_in all_sets s < length all_sets) × (get_or all_sets (place_in all_sets s) 0 ≡ s)
-      found s i l o = placed all_sets s (below-has t.players s i (w.owners_within s i l o) l o)
+      found : (s i : ℕ) → s < t.sets → t.owner s ≡ Some i → (place_in (player_sets t) s < length (player_sets t)) × (get_or (player_sets t) (place_in (player_sets t) s) 0 ≡ s)
+      found s i l o = placed (player_sets t) s (below-has t.players s i (w.owners_within s i l o) l o)
 
-      size : (s i : ℕ) → s < t.sets → t.owner s ≡ Some i → get_or (action_counts t) (place_in all_sets s) 0 ≡ t.actions s
-      size s i l o = (let f = found s i l o in count-at (place_in all_sets s) f.0 ∙ ap t.actions f.1)
+      size : (s i : ℕ) → s < t.sets → t.owner s ≡ Some i → get_or (action_counts t) (place_in (player_sets t) s) 0 ≡ t.actions s
+      size s i l o = (let f = found s i l o in count-at (place_in (player_sets t) s) f.0 ∙ ap t.actions f.1)
 
       positive : (s i a : ℕ) → s < t.sets → t.owner s ≡ Some i → a < t.actions s → zero_ℚ ≤ℚ behaviour_of m s a
-      positive s i a l o h = (let f = found s i l o in v.not_negative (place_in all_sets s) a (omega (arith, f.0, counts-long)) (subst (λ n. a < n) (sym (size s i l o)) h))
+      positive s i a l o h = (let f = found s i l o in v.not_negative (place_in (player_sets t) s) a (omega (arith, f.0, counts-long)) (subst (λ n. a < n) (sym (size s i l o)) h))
 
       total : (s i : ℕ) → s < t.sets → t.owner s ≡ Some i → sum_to (t.actions s) (behaviour_of m s) ≡ one_ℚ
-      total s i l o = (let f = found s i l o in ap (λ n. sum_to n (behaviour_of m s)) (sym (size s i l o)) ∙ v.sum_is_one (place_in all_sets s) (omega (arith, f.0, counts-long)))
+      total s i l o = (let f = found s i l o in ap (λ n. sum_to n (behaviour_of m s)) (sym (size s i l o)) ∙ v.sum_is_one (place_in (player_sets t) s) (omega (arith, f.0, counts-long)))
 
 pub tested_behaviours : TestedEntriesAreBehaviours
 tested_behaviours = record { sound = sound; complete = complete }
@@ -171,10 +159,10 @@ tested_behaviours = record { sound = sound; complete = complete }
     sound : (t : Tree) (list : List ℚ) → IsTree t → profile_in (action_counts t) list (Ok list) → (b : Behaviour) × (list ≡ tree_entries t b) × IsValid t b
     sound t list w h =
         (let p = tested_entries.sound (action_counts t) list h in
-        let same : (k a : ℕ) → k < length (action_counts t) → a < get_or (action_counts t) k 0 → p.0 k a ≡ by_place t (behaviour_of t p.0) (all_sets t) k a = λ k a l _. ap (λ j. p.0 j a) (sym (place-at (all_sets t) k (no_repetition t t.players) (omega (arith, l, counts-long t)))) in
-        (behaviour_of t p.0, p.1 ∙ entries-same (action_counts t) p.0 (by_place t (behaviour_of t p.0) (all_sets t)) same ∙ sym (all_entries t (behaviour_of t p.0)), valid-behaviour t p.0 w p.2))
+        let same : (k a : ℕ) → k < length (action_counts t) → a < get_or (action_counts t) k 0 → p.0 k a ≡ by_place t (behaviour_of t p.0) (player_sets t) k a = λ k a l _. ap (λ j. p.0 j a) (sym (place-at (player_sets t) k (no_repetition t t.players) (omega (arith, l, counts-long t)))) in
+        (behaviour_of t p.0, p.1 ∙ entries-same (action_counts t) p.0 (by_place t (behaviour_of t p.0) (player_sets t)) same ∙ sym (all_entries t (behaviour_of t p.0)), valid-behaviour t p.0 w p.2))
 
     complete : (t : Tree) (b : Behaviour) → IsTree t → IsValid t b → AdditionsFit (action_counts t) (tree_entries t b) → profile_in (action_counts t) (tree_entries t b) (Ok (tree_entries t b))
     complete t b w v fit =
         (let e = all_entries t b in
-        subst (λ l. profile_in (action_counts t) l (Ok l)) (sym e) (tested_entries.complete (action_counts t) (by_place t b (all_sets t)) (valid-profile t b v) (subst (AdditionsFit (action_counts t)) e fit)))
+        subst (λ l. profile_in (action_counts t) l (Ok l)) (sym e) (tested_entries.complete (action_counts t) (by_place t b (player_sets t)) (valid-profile t b v) (subst (AdditionsFit (action_counts t)) e fit)))

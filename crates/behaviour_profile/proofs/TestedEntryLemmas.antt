@@ -5,56 +5,51 @@ use Rattle.std.proofs.lemmas.List.{get_or-append-add, get_or_append_left, take-a
 use Rattle.std.proofs.lemmas.List.Elements.{All-nil, All-cons, All-append, All-head, All-tail}
 use Rattle.lists.proofs.ElementLemmas.{All-left, All-right, made-next}
 use Rattle.rational.specs.Rational.{ℚ, ◌≤ℚ◌, zero_ℚ, one_ℚ}
-use Rattle.rational.specs.Sum.{sum_to, entry_at}
+use Rattle.rational.specs.Sum.{sum_to, entry_at, IsDistribution}
 use Rattle.rational.proofs.SumLemmas.{sum_to-same}
 use Rattle.game_theory.specs.Lines.{listed, entries}
 use Rattle.game_theory.specs.Mixed.{Mixed, IsValid, later}
 use Rattle.game_theory.proofs.ProfileLineLemmas.{entries-same, length-entries, length-listed, get_or-listed}
-use Rattle.behaviour_profile.specs.EntryTests.{mixed_of, SumsToOne, Passes, entry_tests, group_tests, tests_from, profile_in}
+use Rattle.behaviour_profile.specs.EntryTests.{mixed_of, SumsToOne, TestHolds, entry_tests, group_tests, tests_from, profile_in}
 use Rattle.behaviour_profile.specs.EntryLaws.{AdditionFits, TestedEntriesAreProfiles}
 use Rattle.behaviour_profile.proofs.GroupListLemmas.{sum-cons, sum-nil}
 use Rattle.behaviour_profile.proofs.ProfileAnswerLemmas.{entries_pass, passed_count, passed_tests}
 use Rattle.behaviour_profile.proofs.GroupTestLemmas.{addition_at, sign_at, tests_below, sum_below}
 
 -- ---- a group
--- the numbers below n are not negative, and sum to 1
-pub record IsChanceDistribution (n : ℕ) (f : ℕ → ℚ) : Type 0 where
-  pub not_negative : (k : ℕ) → k < n → zero_ℚ ≤ℚ f k
-  pub sum_is_one : sum_to n f ≡ one_ℚ
-
 module _ (list : List ℚ) (place : ℕ) where
   abbrev at : ℕ → ℚ
   at k = entry_at list (place + k)
 
-  below-positive : (n : ℕ) → All Passes (tests_below list place n) → (k : ℕ) → k < n → zero_ℚ ≤ℚ at k
+  below-positive : (n : ℕ) → All TestHolds (tests_below list place n) → (k : ℕ) → k < n → zero_ℚ ≤ℚ at k
   below-positive zero h k l = absurd (omega (arith, l))
   below-positive (suc n) h k l = elim (eq-or-lt_of_le (le_of_suc-le-suc l)) [
-    | inl e ↦ subst (λ j. zero_ℚ ≤ℚ at j) (sym e) (All-head Passes (sign_at list place n) (addition_at list place n ∷ []) last)
-    | inr b ↦ below-positive n (All-left Passes (tests_below list place n) (entry_tests list place n) all) k b
+    | inl e ↦ subst (λ j. zero_ℚ ≤ℚ at j) (sym e) (All-head TestHolds (sign_at list place n) (addition_at list place n ∷ []) last)
+    | inr b ↦ below-positive n (All-left TestHolds (tests_below list place n) (entry_tests list place n) all) k b
   ]
     where
-      all : All Passes (tests_below list place n ++ entry_tests list place n)
-      all = subst (All Passes) (made-next (entry_tests list place) n) h
+      all : All TestHolds (tests_below list place n ++ entry_tests list place n)
+      all = subst (All TestHolds) (made-next (entry_tests list place) n) h
 
-      last : All Passes (entry_tests list place n)
-      last = All-right Passes (tests_below list place n) (entry_tests list place n) all
+      last : All TestHolds (entry_tests list place n)
+      last = All-right TestHolds (tests_below list place n) (entry_tests list place n) all
 
   -- a group that passes is a lottery
-  lottery : (group n : ℕ) → All Passes (group_tests list place group n) → IsChanceDistribution n at
+  lottery : (group n : ℕ) → All TestHolds (group_tests list place group n) → IsDistribution n at
   lottery group n h =
       record {
-        not_negative = below-positive n (All-left Passes (tests_below list place n) (SumsToOne group (sum_below list place n) ∷ []) h);
-        sum_is_one = All-head Passes (SumsToOne group (sum_below list place n)) [] (All-right Passes (tests_below list place n) (SumsToOne group (sum_below list place n) ∷ []) h);
+        not_negative = below-positive n (All-left TestHolds (tests_below list place n) (SumsToOne group (sum_below list place n) ∷ []) h);
+        sum_is_one = All-head TestHolds (SumsToOne group (sum_below list place n)) [] (All-right TestHolds (tests_below list place n) (SumsToOne group (sum_below list place n) ∷ []) h);
       }
 
-  below-passes : (n : ℕ) → ((k : ℕ) → k < n → zero_ℚ ≤ℚ at k) → All AdditionFits (tests_below list place n) → All Passes (tests_below list place n)
-  below-passes zero positive fit = All-nil Passes
+  below-passes : (n : ℕ) → ((k : ℕ) → k < n → zero_ℚ ≤ℚ at k) → All AdditionFits (tests_below list place n) → All TestHolds (tests_below list place n)
+  below-passes zero positive fit = All-nil TestHolds
   below-passes (suc n) positive fit =
-      subst (All Passes) (sym (made-next (entry_tests list place) n))
-      (All-append Passes (tests_below list place n) (entry_tests list place n)
+      subst (All TestHolds) (sym (made-next (entry_tests list place) n))
+      (All-append TestHolds (tests_below list place n) (entry_tests list place n)
       (below-passes n (λ k l. positive k (omega (arith, l))) (All-left AdditionFits (tests_below list place n) (entry_tests list place n) all))
-      (All-cons Passes (sign_at list place n) (addition_at list place n ∷ []) (positive n (omega arith))
-      (All-cons Passes (addition_at list place n) [] (All-head AdditionFits (addition_at list place n) [] (All-tail AdditionFits (sign_at list place n) (addition_at list place n ∷ []) last)) (All-nil Passes))))
+      (All-cons TestHolds (sign_at list place n) (addition_at list place n ∷ []) (positive n (omega arith))
+      (All-cons TestHolds (addition_at list place n) [] (All-head AdditionFits (addition_at list place n) [] (All-tail AdditionFits (sign_at list place n) (addition_at list place n ∷ []) last)) (All-nil TestHolds))))
     where
       all : All AdditionFits (tests_below list place n ++ entry_tests list place n)
       all = subst (All AdditionFits) (made-next (entry_tests list place) n) fit
@@ -63,13 +58,13 @@ module _ (list : List ℚ) (place : ℕ) where
       last = All-right AdditionFits (tests_below list place n) (entry_tests list place n) all
 
   -- and a lottery that can be added passes
-  lottery-passes : (group n : ℕ) → IsChanceDistribution n at → All AdditionFits (group_tests list place group n) → All Passes (group_tests list place group n)
+  lottery-passes : (group n : ℕ) → IsDistribution n at → All AdditionFits (group_tests list place group n) → All TestHolds (group_tests list place group n)
   lottery-passes group n h fit =
-      All-append Passes (tests_below list place n) (SumsToOne group (sum_below list place n) ∷ [])
+      All-append TestHolds (tests_below list place n) (SumsToOne group (sum_below list place n) ∷ [])
       (below-passes n h.not_negative (All-left AdditionFits (tests_below list place n) (SumsToOne group (sum_below list place n) ∷ []) fit))
-      (All-cons Passes (SumsToOne group (sum_below list place n)) [] h.sum_is_one (All-nil Passes))
+      (All-cons TestHolds (SumsToOne group (sum_below list place n)) [] h.sum_is_one (All-nil TestHolds))
 
-lottery-same : (n : ℕ) (f g : ℕ → ℚ) → ((k : ℕ) → k < n → f k ≡ g k) → IsChanceDistribution n f → IsChanceDistribution n g
+lottery-same : (n : ℕ) (f g : ℕ → ℚ) → ((k : ℕ) → k < n → f k ≡ g k) → IsDistribution n f → IsDistribution n g
 lottery-same n f g same h =
     record { not_negative = λ k l. subst (λ q. zero_ℚ ≤ℚ q) (same k l) (h.not_negative k l); sum_is_one = sym (sum_to-same n f g same) ∙ h.sum_is_one }
 
@@ -80,13 +75,13 @@ first_group before following n f k l =
     get_or-append-add before (listed n f ++ following) k zero_ℚ ∙ get_or_append_left (listed n f) following zero_ℚ k (omega (arith, l, length-listed n f)) ∙ get_or-listed n f k zero_ℚ l
 
 module _ (n : ℕ) (sizes : List ℕ) (m : Mixed) where
-  pub valid-first : IsValid (n ∷ sizes) m → IsChanceDistribution n (m 0)
+  pub valid-first : IsValid (n ∷ sizes) m → IsDistribution n (m 0)
   valid-first v = record { not_negative = λ k l. v.not_negative 0 k (omega arith) l; sum_is_one = v.sum_is_one 0 (omega arith) }
 
   pub valid-later : IsValid (n ∷ sizes) m → IsValid sizes (later m)
   valid-later v = record { not_negative = λ i s l h. v.not_negative (suc i) s (omega (arith, l)) h; sum_is_one = λ i l. v.sum_is_one (suc i) (omega (arith, l)) }
 
-  pub valid-both : IsChanceDistribution n (m 0) → IsValid sizes (later m) → IsValid (n ∷ sizes) m
+  pub valid-both : IsDistribution n (m 0) → IsValid sizes (later m) → IsValid (n ∷ sizes) m
   valid-both h v = record { not_negative = positive; sum_is_one = total }
     where
       positive : (i s : ℕ) → i < length (n ∷ sizes) → s < get_or (n ∷ sizes) i 0 → zero_ℚ ≤ℚ m i s
@@ -107,27 +102,27 @@ tests-moved : (before following : List ℚ) (n group : ℕ) (f : ℕ → ℚ) (s
     → tests_from (before ++ (listed n f ++ following)) (length before + n) group sizes ≡ tests_from ((before ++ listed n f) ++ following) (length (before ++ listed n f)) group sizes
 tests-moved before following n group f sizes = ap₂ (λ l p. tests_from l p group sizes) (moved before following n f) (place-moved before n f)
 
-passed-valid : (sizes : List ℕ) (before : List ℚ) (group : ℕ) (m : Mixed) → All Passes (tests_from (before ++ entries sizes m) (length before) group sizes) → IsValid sizes m
+passed-valid : (sizes : List ℕ) (before : List ℚ) (group : ℕ) (m : Mixed) → All TestHolds (tests_from (before ++ entries sizes m) (length before) group sizes) → IsValid sizes m
 passed-valid [] before group m h = record { not_negative = λ i s l k. absurd (omega (arith, l)); sum_is_one = λ i l. absurd (omega (arith, l)) }
 passed-valid (n ∷ sizes) before group m h =
     (let list : List ℚ = before ++ (listed n (m 0) ++ entries sizes (later m)) in
-    let head = All-left Passes (group_tests list (length before) group n) (tests_from list (length before + n) (suc group) sizes) h in
-    let rest = All-right Passes (group_tests list (length before) group n) (tests_from list (length before + n) (suc group) sizes) h in
+    let head = All-left TestHolds (group_tests list (length before) group n) (tests_from list (length before + n) (suc group) sizes) h in
+    let rest = All-right TestHolds (group_tests list (length before) group n) (tests_from list (length before + n) (suc group) sizes) h in
     valid-both n sizes m
     (lottery-same n (at list (length before)) (m 0) (first_group before (entries sizes (later m)) n (m 0)) (lottery list (length before) group n head))
-    (passed-valid sizes (before ++ listed n (m 0)) (suc group) (later m) (subst (All Passes) (tests-moved before (entries sizes (later m)) n (suc group) (m 0) sizes) rest)))
+    (passed-valid sizes (before ++ listed n (m 0)) (suc group) (later m) (subst (All TestHolds) (tests-moved before (entries sizes (later m)) n (suc group) (m 0) sizes) rest)))
 
 valid-passed : (sizes : List ℕ) (before : List ℚ) (group : ℕ) (m : Mixed) → IsValid sizes m → All AdditionFits (tests_from (before ++ entries sizes m) (length before) group sizes)
-    → All Passes (tests_from (before ++ entries sizes m) (length before) group sizes)
-valid-passed [] before group m v h = All-nil Passes
+    → All TestHolds (tests_from (before ++ entries sizes m) (length before) group sizes)
+valid-passed [] before group m v h = All-nil TestHolds
 valid-passed (n ∷ sizes) before group m v h =
     (let list : List ℚ = before ++ (listed n (m 0) ++ entries sizes (later m)) in
     let head = All-left AdditionFits (group_tests list (length before) group n) (tests_from list (length before + n) (suc group) sizes) h in
     let rest = All-right AdditionFits (group_tests list (length before) group n) (tests_from list (length before + n) (suc group) sizes) h in
     let moved_tests = tests-moved before (entries sizes (later m)) n (suc group) (m 0) sizes in
-    All-append Passes (group_tests list (length before) group n) (tests_from list (length before + n) (suc group) sizes)
+    All-append TestHolds (group_tests list (length before) group n) (tests_from list (length before + n) (suc group) sizes)
     (lottery-passes list (length before) group n (lottery-same n (m 0) (at list (length before)) (λ k l. sym (first_group before (entries sizes (later m)) n (m 0) k l)) (valid-first n sizes m v)) head)
-    (subst (All Passes) (sym moved_tests) (valid-passed sizes (before ++ listed n (m 0)) (suc group) (later m) (valid-later n sizes m v) (subst (All AdditionFits) moved_tests rest))))
+    (subst (All TestHolds) (sym moved_tests) (valid-passed sizes (before ++ listed n (m 0)) (suc group) (later m) (valid-later n sizes m v) (subst (All AdditionFits) moved_tests rest))))
 
 -- ---- the profile of entries
 abbrev profile_of : List ℕ → List ℚ → Mixed
@@ -168,7 +163,7 @@ tested_entries = record { sound = sound; complete = complete }
     sound : (sizes : List ℕ) (list : List ℚ) → profile_in sizes list (Ok list) → (m : Mixed) × (list ≡ entries sizes m) × IsValid sizes m
     sound sizes list h =
         (let e = entries-profile_of sizes list (passed_count sizes list list h) in
-        (profile_of sizes list, sym e, passed-valid sizes [] 0 (profile_of sizes list) (subst (λ l. All Passes (tests_from l 0 0 sizes)) (sym e) (passed_tests sizes list list h))))
+        (profile_of sizes list, sym e, passed-valid sizes [] 0 (profile_of sizes list) (subst (λ l. All TestHolds (tests_from l 0 0 sizes)) (sym e) (passed_tests sizes list list h))))
 
     complete : (sizes : List ℕ) (m : Mixed) → IsValid sizes m → All AdditionFits (tests_from (entries sizes m) 0 0 sizes) → profile_in sizes (entries sizes m) (Ok (entries sizes m))
     complete sizes m v fit = entries_pass sizes (entries sizes m) (length-entries sizes m) (valid-passed sizes [] 0 m v fit)

@@ -1,19 +1,19 @@
 -- A player's own sets as groups, and those of all players.
 use Rattle.std.proofs.Common.{ℕ, zero, suc, ◌+◌, ◌<◌, ◌≤◌, ◌≡◌, ◌^◌, inl, inr, Option, Some, None, Err, List, [], ◌∷◌, ◌++◌, All, length, map, get_or, slice_get, take, refl, sym, ap, ap₂, ◌∙◌, subst, add-one, arith, length-append, eq-or-lt_of_le, le_of_suc-le-suc}
 use Rattle.std.specs.Prelude.{option_map, sum}
-use Rattle.std.specs.List.{range_with_len, flat_map}
 use Rattle.std.proofs.lemmas.Bool.{cases_lt}
-use Rattle.std.proofs.lemmas.List.{take_all, length-map}
+use Rattle.std.proofs.lemmas.List.{take_all, length-map, map-append}
 use Rattle.std.proofs.lemmas.Option.{slice_get-map}
 use Rattle.rational.specs.Rational.{ℚ}
-use Rattle.game_theory.specs.OwnSets.{own_sets, own_counts}
+use Rattle.game_theory.specs.OwnSets.{action_counts, own_sets, own_counts}
 use Rattle.game_theory.specs.Trees.{Tree, IsTree as is_game_tree}
 use Rattle.game_theory.proofs.OwnSetLemmas.{IsAmong, own_sets-tell}
 use Rattle.game_core.specs.Tree.{GameTree, IsGameTree, InformationSet}
 use Rattle.game_core.specs.TreeGame.{game_of_tree}
 use Rattle.strategy_lists.proofs.ActionCountLemmas.{actions-below}
 use Rattle.behaviour_profile.specs.declared.entries.ProfileFault.{ProfileFault}
-use Rattle.behaviour_profile.specs.EntryTests.{Passes, action_counts, tests_from}
+use Rattle.behaviour_profile.specs.EntryStarts.{sets_below}
+use Rattle.behaviour_profile.specs.EntryTests.{TestHolds, tests_from}
 use Rattle.behaviour_profile.proofs.BehaviourEntryLemmas.{actions-counted, own_set-below, place-found}
 use Rattle.behaviour_profile.proofs.FirstFaultLemmas.{tests_in}
 use Rattle.behaviour_profile.proofs.GroupListLemmas.{fault-longer, groups_fault, groups_pass, sum-append, sum-cons, sum-nil}
@@ -48,10 +48,13 @@ module _ (t : GameTree) (i k : ℕ) (read : Option ℕ) (is : read ≡ slice_get
 -- ---- all players
 module _ (t : Tree) where
   abbrev pub counts_below : ℕ → List ℕ
-  counts_below p = flat_map (own_counts t) (range_with_len 0 p)
+  counts_below p = map t.actions (sets_below t p)
+
+  counts-more : (p : ℕ) → counts_below (suc p) ≡ counts_below p ++ own_counts t p
+  counts-more p = ap (map t.actions) (made-next (own_sets t) p) ∙ map-append t.actions (sets_below t p) (own_sets t p)
 
   pub counts-next : (p : ℕ) → counts_below (p + 1) ≡ counts_below p ++ own_counts t p
-  counts-next p = ap counts_below (add-one p) ∙ made-next (own_counts t) p
+  counts-next p = ap counts_below (add-one p) ∙ counts-more p
 
   pub total-next : (p : ℕ) → sum (counts_below (p + 1)) ≡ sum (counts_below p) + sum (own_counts t p)
   total-next p = ap sum (counts-next p) ∙ sum-append (counts_below p) (own_counts t p)
@@ -65,7 +68,7 @@ module _ (t : Tree) where
   totals p (suc n) l = elim (eq-or-lt_of_le l) [
     | inl e ↦ subst (λ k. sum (counts_below k) ≤ sum (counts_below (suc n))) (sym e) (omega arith)
     | inr b ↦ (let before = totals p n (le_of_suc-le-suc b) in
-        let more = ap sum (made-next (own_counts t) n) ∙ sum-append (counts_below n) (own_counts t n) in
+        let more = ap sum (counts-more n) ∙ sum-append (counts_below n) (own_counts t n) in
         omega (arith, before, more))
   ]
 
@@ -88,8 +91,8 @@ module _ (t : Tree) where
   groups-below zero w = omega (arith, sum-nil)
   groups-below (suc p) w =
       let before = groups-below p w in
-      let more = ap sum (made-next (own_counts t) p) ∙ sum-append (counts_below p) (own_counts t p) in
-      let groups = ap length (made-next (own_counts t) p) ∙ length-append (counts_below p) (own_counts t p) in
+      let more = ap sum (counts-more p) ∙ sum-append (counts_below p) (own_counts t p) in
+      let groups = ap length (counts-more p) ∙ length-append (counts_below p) (own_counts t p) in
       omega (arith, before, more, groups, own-groups p w)
 
   pub groups-within : (p : ℕ) → is_game_tree t → p < t.players → length (counts_below p) + length (own_counts t p) ≤ sum (action_counts t)
@@ -101,15 +104,15 @@ module _ (t : Tree) where
     later-fault p zero fault l h = let e : p ≡ 0 = omega arith in subst (λ k. tests_in (tests_from entries 0 0 (counts_below k)) (Err fault)) e h
     later-fault p (suc n) fault l h = elim (eq-or-lt_of_le l) [
       | inl e ↦ subst (λ k. tests_in (tests_from entries 0 0 (counts_below k)) (Err fault)) e h
-      | inr b ↦ subst (λ v. tests_in (tests_from entries 0 0 v) (Err fault)) (sym (made-next (own_counts t) n)) (fault-longer entries 0 0 (counts_below n) (own_counts t n) fault (later-fault p n fault (le_of_suc-le-suc b) h))
+      | inr b ↦ subst (λ v. tests_in (tests_from entries 0 0 v) (Err fault)) (sym (counts-more n)) (fault-longer entries 0 0 (counts_below n) (own_counts t n) fault (later-fault p n fault (le_of_suc-le-suc b) h))
     ]
 
-    module _ (p place group : ℕ) (place_is : place ≡ sum (counts_below p)) (group_is : group ≡ length (counts_below p)) (passed : All Passes (tests_from entries 0 0 (counts_below p))) where
+    module _ (p place group : ℕ) (place_is : place ≡ sum (counts_below p)) (group_is : group ≡ length (counts_below p)) (passed : All TestHolds (tests_from entries 0 0 (counts_below p))) where
       own_tests : tests_from entries place group (own_counts t p) ≡ tests_from entries (0 + sum (counts_below p)) (0 + length (counts_below p)) (own_counts t p)
       own_tests = ap₂ (λ a b. tests_from entries a b (own_counts t p)) (place_is ∙ omega arith) (group_is ∙ omega arith)
 
-      pub player_passes : All Passes (tests_from entries place group (own_counts t p)) → All Passes (tests_from entries 0 0 (counts_below (p + 1)))
-      player_passes h = subst (λ v. All Passes (tests_from entries 0 0 v)) (sym (counts-next p)) (groups_pass entries 0 0 (counts_below p) (own_counts t p) passed (subst (All Passes) own_tests h))
+      pub player_passes : All TestHolds (tests_from entries place group (own_counts t p)) → All TestHolds (tests_from entries 0 0 (counts_below (p + 1)))
+      player_passes h = subst (λ v. All TestHolds (tests_from entries 0 0 v)) (sym (counts-next p)) (groups_pass entries 0 0 (counts_below p) (own_counts t p) passed (subst (All TestHolds) own_tests h))
 
       pub player_fault : (fault : ProfileFault) → p < t.players → tests_in (tests_from entries place group (own_counts t p)) (Err fault) → tests_in (tests_from entries 0 0 (action_counts t)) (Err fault)
       player_fault fault l h =

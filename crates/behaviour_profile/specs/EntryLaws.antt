@@ -6,10 +6,11 @@ use Rattle.game_theory.specs.Mixed.{Mixed, IsValid as is_valid_profile}
 use Rattle.game_theory.specs.Behaviour.{Behaviour, IsValid}
 use Rattle.game_theory.specs.TreeEntries.{tree_entries}
 use Rattle.game_theory.specs.Trees.{Tree, IsTree}
+use Rattle.game_theory.specs.OwnSets.{action_counts}
 use Rattle.frac128.specs.Steps.{StepFits}
-use Rattle.behaviour_profile.specs.EntryTests.{Test, IsNotNegative, CanBeAdded, SumsToOne, action_counts, profile_in, tests_from}
+use Rattle.behaviour_profile.specs.EntryTests.{Test, IsNotNegative, CanBeAdded, SumsToOne, profile_in, tests_from}
 
--- a test that is one of an addition is passed
+-- where a test is of an addition, it fits
 abbrev pub AdditionFits : Test → Type 0
 AdditionFits (IsNotNegative place entry) = Unit {0}
 AdditionFits (CanBeAdded step) = StepFits step

@@ -5,11 +5,9 @@ use Rattle.std.specs.List.{range_with_len, flat_map}
 use Rattle.answers.specs.Answers.{Answer, ◌>>◌, only, refuse_where, refused_by}
 use Rattle.rational.specs.Rational.{ℚ, ◌≤ℚ◌, zero_ℚ, one_ℚ}
 use Rattle.rational.specs.Sum.{entry_at, sum_to}
-use Rattle.frac128.specs.Steps.{unfit, Step, StepFits}
+use Rattle.frac128.specs.Steps.{step_of, Step, StepFits}
 use Rattle.frac128.specs.declared.steps.Op.TheVariants.{Add}
 use Rattle.game_theory.specs.Mixed.{Mixed}
-use Rattle.game_theory.specs.Trees.{Tree}
-use Rattle.game_theory.specs.OwnSets.{own_counts}
 use Rattle.behaviour_profile.specs.declared.entries.ProfileFault.{ProfileFault}
 use Rattle.behaviour_profile.specs.declared.entries.ProfileFault.TheVariants as faults
 
@@ -20,13 +18,13 @@ pub data Test : Type 0 where
   CanBeAdded : (step : Step) → Test
   SumsToOne : (group : ℕ) → (sum : ℚ) → Test
 
--- a test is passed
-abbrev pub Passes : Test → Type 0
-Passes (IsNotNegative place entry) = zero_ℚ ≤ℚ entry
-Passes (CanBeAdded step) = StepFits step
-Passes (SumsToOne group sum) = sum ≡ one_ℚ
+-- a test holds
+abbrev pub TestHolds : Test → Type 0
+TestHolds (IsNotNegative place entry) = zero_ℚ ≤ℚ entry
+TestHolds (CanBeAdded step) = StepFits step
+TestHolds (SumsToOne group sum) = sum ≡ one_ℚ
 
--- what is wrong where it is not
+-- what is wrong where it does not
 abbrev pub fault_of : Test → ProfileFault
 fault_of (IsNotNegative place entry) = faults.Negative place
 fault_of (CanBeAdded step) = faults.Unfit step
@@ -38,7 +36,7 @@ abbrev pub entry_tests : List ℚ → ℕ → ℕ → List Test
 entry_tests entries place k =
     let sum_before : ℚ = sum_to k (λ j. entry_at entries (place + j)) in
     IsNotNegative (place + k) (entry_at entries (place + k))
-    ∷ CanBeAdded (unfit Add sum_before (entry_at entries (place + k)))
+    ∷ CanBeAdded (step_of Add sum_before (entry_at entries (place + k)))
     ∷ []
 
 -- the tests of a group whose n entries stand from a place on: those of each entry in order, and
@@ -54,26 +52,26 @@ tests_from entries place group [] = []
 tests_from entries place group (n ∷ sizes) =
     group_tests entries place group n ++ tests_from entries (place + n) (suc group) sizes
 
--- the first of these tests that is not passed
+-- the first of these tests that does not hold
 pub record IsFirstFailed (tests : List Test) (test : Test) : Type 0 where
   pub before : List Test
   pub following : List Test
   pub is_there : tests ≡ before ++ test ∷ following
-  pub earlier_pass : All Passes before
-  pub fails : Passes test → ⊥
+  pub earlier_pass : All TestHolds before
+  pub fails : TestHolds test → ⊥
 
--- these tests are all passed; or the first that is not
+-- these tests all hold; or the first that does not
 abbrev pub all_pass : List Test → Answer Test (Unit {0})
-all_pass tests (Ok _) = All Passes tests
+all_pass tests (Ok _) = All TestHolds tests
 all_pass tests (Err test) = IsFirstFailed tests test
 
--- the tests of a group are all passed; or what is wrong at the first that is not
+-- the tests of a group all hold; or what is wrong at the first that does not
 abbrev pub group_in : List ℚ → ℕ → ℕ → ℕ → Answer ProfileFault (Unit {0})
 group_in entries place group n = refused_by fault_of (all_pass (group_tests entries place group n))
 
 -- ---- profiles
--- Entries in groups of these sizes, whose count is right and whose tests are all passed; or what
--- is wrong first.
+-- Entries in groups of these sizes, whose count is right and whose tests all hold; or what is wrong
+-- first.
 abbrev pub profile_in : List ℕ → List ℚ → Answer ProfileFault (List ℚ)
 profile_in sizes entries =
     refuse_where (length entries ≢ sum sizes) faults.Count
@@ -82,8 +80,3 @@ profile_in sizes entries =
 -- the mixed profile with these entries, where the players have so many strategies
 abbrev pub mixed_of : List ℕ → List ℚ → Mixed
 mixed_of sizes entries i s = entry_at entries (sum (take i sizes) + s)
-
--- ---- trees
--- how many actions each player's set has, player by player
-abbrev pub action_counts : Tree → List ℕ
-action_counts t = flat_map (own_counts t) (range_with_len 0 t.players)

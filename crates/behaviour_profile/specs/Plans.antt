@@ -1,17 +1,17 @@
 -- The behaviour of two plans on a tree, and the first of its quotients that does not fit. Source: von Stengel 1996.
-use Rattle.std.specs.Prelude.{ℕ, List, [], ◌∷◌, get_or, map, if◌then◌else◌, Some}
+use Rattle.std.specs.Prelude.{ℕ, List, [], ◌∷◌, map, if◌then◌else◌, Some}
 use Rattle.std.specs.List.{range_with_len, flat_map}
 use Rattle.answers.specs.Answers.{Answer, ◌>>◌, only, refused_by}
 use Rattle.rational.specs.Rational.{ℚ, zero_ℚ}
 use Rattle.rational.specs.Tests.{eq_ℚ}
-use Rattle.frac128.specs.Steps.{unfit, Step}
+use Rattle.frac128.specs.Steps.{step_of, Step}
 use Rattle.frac128.specs.declared.steps.Op.TheVariants.{Div}
 use Rattle.game_theory.specs.Trees.{Tree}
 use Rattle.game_theory.specs.OwnSets.{own_sets}
 use Rattle.game_theory.specs.TreeEntries.{tree_entries}
 use Rattle.sequence_forms.specs.PlanBehaviour.{of_two, behaviour_of}
 use Rattle.sequence_forms.specs.Sequences.{sequence, sequence_before}
-use Rattle.game_core.specs.Tree.{GameTree}
+use Rattle.game_core.specs.Tree.{GameTree, label_of}
 use Rattle.game_core.specs.TreeGame.{game_of_tree}
 use Rattle.frac128.specs.FirstUnfit.{all_fit}
 use Rattle.rational.specs.Sum.{entry_at}
@@ -35,7 +35,7 @@ own_actions t i = flat_map (actions_at t i) (own_sets t i)
 
 -- the step of a share: the weight after is divided by the weight before; there is none where that is 0
 abbrev pub share_steps : ℚ → ℚ → List Step
-share_steps before after = if eq_ℚ before zero_ℚ then [] else unfit Div after before ∷ []
+share_steps before after = if eq_ℚ before zero_ℚ then [] else step_of Div after before ∷ []
 
 -- the step at an action: the weight before its set and that of its sequence give its share
 abbrev pub quotient_steps : Tree → (ℕ → ℕ → ℚ) → OwnAction → List Step
@@ -47,10 +47,6 @@ quotient_steps t plans k =
 -- the plans of two lists of weights
 abbrev pub both_plans : List ℚ → List ℚ → ℕ → ℕ → ℚ
 both_plans one two = of_two (entry_at one) (entry_at two)
-
--- the number that the file gives set s; 0 where there is no such set
-abbrev pub label_of : GameTree → ℕ → ℕ
-label_of t s = get_or (map (λ set. set.label) t.sets) s 0
 
 -- a quotient that does not fit is told by its player, its set as the file numbers it, and its step
 abbrev pub quotient_stop : GameTree → OwnAction × Step → BehaviourStop

@@ -17,13 +17,12 @@ ghost use Rattle.std.specs.Prelude.{
 ghost use Rattle.answers.specs.Answers.{IsSingle, map_ok, refused_by};
 ghost use Rattle.rational.specs.Rational.{ℚ};
 ghost use Rattle.game_core.specs.TreeGame.{game_of_tree};
-ghost use Rattle.game_theory.specs.OwnSets.{own_counts};
+ghost use Rattle.game_theory.specs.OwnSets.{action_counts, own_counts};
 ghost use Rattle.behaviour_profile.specs.EntryLaws.{
   TestedEntriesAreBehaviours,
   TestedEntriesAreProfiles,
 };
 ghost use Rattle.behaviour_profile.specs.EntryTests.{
-  action_counts,
   all_pass,
   fault_of,
   group_in,

@@ -62,15 +62,7 @@ impl Model for Behaviour {
 }
 
 impl Behaviour {
-    ghost use Rattle.std.specs.Prelude.{◌≡◌, slice_get};
-
-    /// The entry at a place, from 0; nothing exactly past the end. Takes no memory.
-    pub fn entry(&self, place: u32) -> Option<Frac>
-        ensures { result ≡ slice_get self.now place }
-    {
-        let entry = self.entries.get(place as usize)?;
-        Some(*entry)
-    }
+    ghost use Rattle.std.specs.Prelude.{◌≡◌};
 
     /// All entries.
     pub fn entries(&self) -> &[Frac]

@@ -19,13 +19,13 @@ ghost use Rattle.game_theory.specs.Lines.{listed};
 ghost use Rattle.game_theory.specs.OwnSets.{own_sets};
 ghost use Rattle.game_theory.specs.TreeEntries.{own_entries};
 ghost use Rattle.sequence_forms.specs.PlanBehaviour.{behaviour_of, share};
-ghost use Rattle.game_core.specs.Tree.{GameTree};
+ghost use Rattle.game_core.specs.Tree.{GameTree, label_of};
 ghost use Rattle.game_core.specs.TreeGame.{game_of_tree};
 ghost use Rattle.rational.specs.Sum.{entry_at};
 ghost use Rattle.sequence_form.specs.Forms.{tree_form};
 ghost use Rattle.sequence_form.specs.Sequences.{tree_side};
 ghost use Rattle.behaviour_profile.specs.declared.plans.BehaviourStop.TheVariants as stops;
-ghost use Rattle.behaviour_profile.specs.Plans.{label_of, own_quotients_in, plan_behaviour, share_steps};
+ghost use Rattle.behaviour_profile.specs.Plans.{own_quotients_in, plan_behaviour, share_steps};
 ghost use Rattle.behaviour_profile.specs.Shares.{share_at, shares_in};
 
 use crate::Behaviour;

@@ -1,35 +1,38 @@
 // Where the entries of sets begin.
-ghost use Rattle.std.specs.Prelude.{◌≡◌, ◌+◌, ◌*◌, ◌<◌, ◌≤◌, length, IfOk};
-ghost use Rattle.behaviour_profile.specs.EntryStarts.{AreStarts, AreStartsTo};
+ghost use Rattle.std.specs.Prelude.{◌≡◌, ◌+◌, ◌<◌, length, map, sum, IfOk};
+ghost use Rattle.behaviour_profile.specs.EntryStarts.{AreStarts, AreStartsOf, sets_below};
 ghost use Rattle.game_core.specs.TreeGame.{game_of_tree};
 
 use frac128::Memory;
 use game_core::Tree;
-use game_core::tree_parts::{action_count, is_own, stands_for_game_tree};
+use game_core::tree_parts::{action_count, stands_for_game_tree};
 use std::alloc::Global;
 
-// Writes the places of the first entries of a player's sets, where the first of all is this, and
-// tells the next. A player has at most 65,536 sets, of at most 65,535 actions each.
+// Writes the places of the first entries of a player's sets, where those of the players before are
+// written and the first of all is this, and tells the next.
 fn write_starts(tree: &Tree, player: u32, starts: &mut [usize], first: usize) -> usize
-    requires starts { length starts.old ≡ length tree.now.sets }
     requires player { player < length tree.now.players }
-    requires few { first ≤ 4294901760 * player }
-    ensures few { result ≤ 4294901760 * (player + 1) }
+    requires first { let t = game_of_tree tree.now in
+        first ≡ sum (map t.actions (sets_below t player)) }
+    requires starts { let t = game_of_tree tree.now in
+        AreStartsOf t (sets_below t player) starts.old }
+    ensures next { let t = game_of_tree tree.now in
+        result ≡ sum (map t.actions (sets_below t (player + 1))) }
     ensures starts { let t = game_of_tree tree.now in
-        AreStartsTo t player 0 starts.old first → AreStartsTo t (player + 1) 0 starts.new result }
+        AreStartsOf t (sets_below t (player + 1)) starts.new }
 {
     stands_for_game_tree(tree);
     let mut next = first;
-    for set in 0..tree.sets().len() {
-        if is_own(tree, set, player) {
-            starts[set] = next;
-            next += action_count(tree, set);
-        }
+    let mut place = 0;
+    while let Some(set) = tree.own_sets(player, place) {
+        starts[set as usize] = next;
+        next += action_count(tree, set as usize);
+        place += 1;
     }
     next
 }
 
-/// For each player's set the place of its first entry.
+/// For each player's set the place of its first entry, and 0 at a set of chance.
 pub fn starts_of(alloc: Global, tree: &Tree) -> Result<Vec<usize>, Memory>
     ensures { IfOk result (λ starts. AreStarts (game_of_tree tree.now) starts.items) }
 {

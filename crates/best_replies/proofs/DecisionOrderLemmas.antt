@@ -1,14 +1,14 @@
 -- Best choices are decided from the last own set to the first: they exist, and there is one list of them.
 use Rattle.std.proofs.Common.{ℕ, zero, suc, ◌+◌, ◌<◌, ◌≤◌, ◌≡◌, ◌≢◌, inl, inr, Some, refl, sym, ap, ◌∙◌, subst, arith, tests}
+use Rattle.std.specs.Prelude.{◌==◌, if◌then◌else◌}
 use Rattle.std.proofs.lemmas.Bool.{cases_eq}
 use Rattle.rational.proofs.SumLemmas.{sum_to-same}
 use Rattle.game_theory.specs.Trees.{Tree, IsTree}
 use Rattle.game_theory.specs.Behaviour.{Behaviour}
-use Rattle.best_replies.specs.Deciding.{AreDecidedFrom, with_choice}
 use Rattle.best_replies.specs.Greatest.{IsFirstGreatest}
 use Rattle.best_replies.specs.Order.{AscendOnPaths}
 use Rattle.best_replies.specs.Replies.{follows, action_value, AreBestChoices}
-use Rattle.best_replies.specs.Laws.{ReplyValuesDependOnLaterSets, ActionValuesDependOnLaterSets, SetsAreDecidedOneByOne, BestChoicesExist, OneListOfBestChoices}
+use Rattle.best_replies.specs.Laws.{ReplyValuesDependOnLaterSets, ActionValuesDependOnLaterSets, BestChoicesExist, OneListOfBestChoices}
 use Rattle.best_replies.proofs.FirstGreatestLemmas.{IsFirstGreatest-same, first_greatest-unique, first_greatest-exists}
 use Rattle.best_replies.proofs.NodeSumLemmas.{where_true-same, follows-decides}
 use Rattle.best_replies.proofs.ReplyValueLemmas.{reply_value-agree}
@@ -46,6 +46,14 @@ pub best_choices-unique : OneListOfBestChoices
 best_choices-unique t b i choice other w ascend h g s l o = last_choices-same t b i choice other w ascend h g t.sets s (omega arith) l o
 
 -- ---- some list
+-- at each own set of player i from set n on the choice is the first action that is worth most
+abbrev AreDecidedFrom : Tree → Behaviour → ℕ → ℕ → (ℕ → ℕ) → Type 0
+AreDecidedFrom t b i n choice = (s : ℕ) → n ≤ s → s < t.sets → t.owner s ≡ Some i → IsFirstGreatest (t.actions s) (action_value t b i choice s) (choice s)
+
+-- the choices with action a at set n
+abbrev with_choice : (ℕ → ℕ) → ℕ → ℕ → ℕ → ℕ
+with_choice choice n a s = if s == n then a else choice s
+
 -- the choice at the set
 with_choice-at : (choice : ℕ → ℕ) (n a : ℕ) → with_choice choice n a n ≡ a
 with_choice-at choice n a = grind (arith, tests)
@@ -85,18 +93,6 @@ module _ (t : Tree) (b : Behaviour) (i : ℕ) (w : IsTree t) (ascend : AscendOnP
         | inl o ↦ let best = first_greatest-exists (t.actions n) (action_value t b i later.0 n) (w.some_action n (omega arith)) in (with_choice later.0 n best.place, decide n later.0 best.place (omega arith) o best.is_first later.1)
         | inr apart ↦ (later.0, skip t b i n later.0 apart later.1)
       ]
-
--- the law of decisions
-pub sets-decided_one_by_one : SetsAreDecidedOneByOne
-sets-decided_one_by_one =
-    record {
-      start = λ t b i choice s m l o. absurd (omega arith);
-      own = λ t b i n a choice w ascend l o h later. decide t b i w ascend n choice a l o h later;
-      other = skip;
-      all = λ t b i choice h s l o. h s (omega arith) l o;
-      known = λ t b i n a s k c choice w ascend m o e l inside apart.
-          reply_value-later_sets t b i (with_choice choice n a) choice s k c w ascend o e l inside apart (λ r p q own. with_choice-other choice n a r (λ same. omega arith));
-    }
 
 -- best choices exist
 pub best_choices-exist : BestChoicesExist

@@ -1,17 +1,16 @@
 -- The laws of best replies, each carried by the contract of a function of this crate.
-use Rattle.std.specs.Prelude.{ℕ, suc, ◌<◌, ◌≤◌, ◌≡◌, ◌≢◌, ◌↔◌, true, false, Some, None, length, slice_index}
+use Rattle.std.specs.Prelude.{ℕ, suc, ◌<◌, ◌≡◌, ◌≢◌, ◌↔◌, true, false, Some, None, length, slice_index}
 use Rattle.rational.specs.Rational.{ℚ, ◌+ℚ◌, ◌*ℚ◌, ◌≤ℚ◌, ◌<ℚ◌, zero_ℚ, one_ℚ}
 use Rattle.rational.specs.Sum.{sum_to}
 use Rattle.game_theory.specs.Profiles.{Game}
 use Rattle.game_theory.specs.Mixed.{Mixed, IsValid as is_valid_profile, payoff as table_payoff, reply as table_reply}
 use Rattle.game_theory.specs.Equilibrium.{IsEquilibrium as is_table_equilibrium}
 use Rattle.game_theory.specs.Trees.{Tree, IsTree, IsChild, IsWithin}
-use Rattle.game_theory.specs.Behaviour.{Behaviour, IsValid, branch_probability, value, payoff, IsChoice, reply}
+use Rattle.game_theory.specs.Behaviour.{Behaviour, IsValid, branch_probability, payoff, IsChoice, reply}
 use Rattle.game_theory.specs.TreeEquilibrium.{IsEquilibrium}
 use Rattle.game_theory.specs.FirstNodes.{AreNumberedByFirstNodes}
 use Rattle.game_theory.specs.Recall.{HasPerfectRecall}
-use Rattle.best_replies.specs.Deciding.{AreDecidedFrom, with_choice}
-use Rattle.best_replies.specs.Greatest.{IsFirstGreatest, HasFirstGreatest}
+use Rattle.best_replies.specs.Greatest.{HasFirstGreatest}
 use Rattle.best_replies.specs.Order.{AscendOnPaths, AgreeFrom, AgreeWithin}
 use Rattle.best_replies.specs.Reaching.{reach, weight}
 use Rattle.best_replies.specs.Replies.{reply_value, is_member, action_value, AreBestChoices, OthersBehaveAlike, HasBetterReply}
@@ -132,25 +131,6 @@ ActionValuesDependOnLaterSets =
     (t : Tree) (b : Behaviour) (i : ℕ) (choice other : ℕ → ℕ) (s a : ℕ) → IsTree t
     → AscendOnPaths t i → t.owner s ≡ Some i → AgreeFrom t i choice other (suc s)
     → action_value t b i choice s a ≡ action_value t b i other s a
-
--- Set by set: before the last set nothing is decided, a decision at an own set leaves those from
--- later sets on as they are, other sets want none, and at the first set all is decided. What a node
--- after a decided set is worth stays.
-pub record SetsAreDecidedOneByOne : Type 0 where
-  pub start : (t : Tree) (b : Behaviour) (i : ℕ) (choice : ℕ → ℕ)
-      → AreDecidedFrom t b i t.sets choice
-  pub own : (t : Tree) (b : Behaviour) (i n a : ℕ) (choice : ℕ → ℕ) → IsTree t → AscendOnPaths t i
-      → n < t.sets → t.owner n ≡ Some i
-      → IsFirstGreatest (t.actions n) (action_value t b i choice n) a
-      → AreDecidedFrom t b i (suc n) choice → AreDecidedFrom t b i n (with_choice choice n a)
-  pub other : (t : Tree) (b : Behaviour) (i n : ℕ) (choice : ℕ → ℕ) → t.owner n ≢ Some i
-      → AreDecidedFrom t b i (suc n) choice → AreDecidedFrom t b i n choice
-  pub all : (t : Tree) (b : Behaviour) (i : ℕ) (choice : ℕ → ℕ) → AreDecidedFrom t b i 0 choice
-      → AreBestChoices t b i choice
-  pub known : (t : Tree) (b : Behaviour) (i n a s k c : ℕ) (choice : ℕ → ℕ) → IsTree t
-      → AscendOnPaths t i → n ≤ s → t.owner s ≡ Some i → t.set k ≡ Some s → c < t.size
-      → IsWithin t k c → k ≢ c
-      → reply_value t b i (with_choice choice n a) c ≡ reply_value t b i choice c
 
 -- best choices exist
 abbrev pub BestChoicesExist : Type 0

@@ -1,7 +1,7 @@
 //! Best replies in game trees and in games in strategic form, for contracts and proofs.
 //!
 //! Callers may rely on: `equilibria_by_best_choices` and `equilibria_by_best_strategies`;
-//! `best_choices_show_better_replies`; sets are decided one by one, from the last to the first.
+//! `best_choices_show_better_replies`; `best_choices_exist`, and one list of them.
 //! Definitions: `specs::Reaching` has the weights of nodes, `Replies` reply values and best
 //! choices, `Order` the order of sets, `Strategies` best strategies of a table.
 //! Lemmas for callers: `proofs::WeightLemmas`, `ReplyValueLemmas`, `DecisionOrderLemmas`,
@@ -30,7 +30,6 @@ ghost use Rattle.best_replies.specs.Laws.{
   ReplyValuesDependOnSubtrees,
   ReplyValuesRecur,
   RootReplyValueIsPayoff,
-  SetsAreDecidedOneByOne,
   SetsAscendOnPaths,
   StrategyValuesArePayoffs,
   WeightsAlongPaths,
@@ -105,12 +104,6 @@ pub fn reply_values_depend_on_later_sets()
 /// So does what an action is worth: the sets can be decided from the last to the first.
 pub fn action_values_depend_on_later_sets()
     ensures { ActionValuesDependOnLaterSets }
-{}
-
-/// Sets are decided one by one from the last to the first, and what is known of nodes after
-/// decided sets stays.
-pub fn sets_are_decided_one_by_one()
-    ensures { SetsAreDecidedOneByOne }
 {}
 
 /// Best choices exist.

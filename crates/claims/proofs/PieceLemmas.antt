@@ -16,7 +16,7 @@ use Rattle.std.proofs.lemmas.Result.{on_ok_weaker}
 use denote.Param.Members.{Shared}
 use Rattle.atomic_table.specs.Seated.{TableId}
 use Rattle.claims.specs.ClaimWord.{PassState, pass_state, times, one_below, HasEachBelow}
-use Rattle.claims.specs.Pieces.{numbers, turn_limit, AreOf, AreDone, IsHelped}
+use Rattle.claims.specs.Pieces.{numbers, turn_limit, ArePiecesOf, AreDone, IsHelped}
 use Rattle.claims.proofs.OccurrenceLemmas.{times-cons, times_above, some_fails, each_below_filter, length_of_each, times-first, one_below-none}
 
 -- a number below the count is kept, and one that is not is dropped
@@ -45,15 +45,15 @@ at_least : (x n m t : ℕ) → nat_lt x n ≡ false → 0 < t → t ≡ one_belo
 at_least x n m t fails some e = grind arith
 
 module _ {F T : Type 0} (g : Shared F (ℕ × Unit {0}) T) (f : F) (count : ℕ) where
-  pub AreOf-append : (xs ys : List ℕ) (ps qs : List (ℕ × T)) → AreOf g f count xs ps → AreOf g f count ys qs → AreOf g f count (xs ++ ys) (ps ++ qs)
-  AreOf-append xs ys ps qs a b = record {
+  pub ArePiecesOf-append : (xs ys : List ℕ) (ps qs : List (ℕ × T)) → ArePiecesOf g f count xs ps → ArePiecesOf g f count ys qs → ArePiecesOf g f count (xs ++ ys) (ps ++ qs)
+  ArePiecesOf-append xs ys ps qs a b = record {
     numbers = map-append (λ p. p.0) ps qs ∙ ap₂ ◌++◌ a.numbers b.numbers ∙ sym (filter-append (λ k. nat_lt k count) xs ys);
     values = All-append (λ p. FnReturns g f (p.0, tt) p.1) ps qs a.values b.values;
   }
 
   -- one more piece
-  pub AreOf-push : (xs : List ℕ) (ps : List (ℕ × T)) (n : ℕ) (v : T) → n < count → g.post f (n, tt) v → AreOf g f count xs ps → AreOf g f count (xs ++ n ∷ []) (ps ++ (n, v) ∷ [])
-  AreOf-push xs ps n v less gives a = AreOf-append xs (n ∷ []) ps ((n, v) ∷ []) a (record {
+  pub ArePiecesOf-push : (xs : List ℕ) (ps : List (ℕ × T)) (n : ℕ) (v : T) → n < count → g.post f (n, tt) v → ArePiecesOf g f count xs ps → ArePiecesOf g f count (xs ++ n ∷ []) (ps ++ (n, v) ∷ [])
+  ArePiecesOf-push xs ps n v less gives a = ArePiecesOf-append xs (n ∷ []) ps ((n, v) ∷ []) a (record {
     numbers = sym (keeps_below n count less);
     values = λ k d l. elim k as (λ (j : ℕ). j < 1 → FnReturns g f ((get_or ((n, v) ∷ []) j d).0, tt) (get_or ((n, v) ∷ []) j d).1) [
       | zero ↦ λ _. record { met = gives }
@@ -62,15 +62,15 @@ module _ {F T : Type 0} (g : Shared F (ℕ × Unit {0}) T) (f : F) (count : ℕ)
   })
 
   -- a claim that is no piece
-  pub AreOf-past : (xs : List ℕ) (ps : List (ℕ × T)) (n : ℕ) → count ≤ n → AreOf g f count xs ps → AreOf g f count (xs ++ n ∷ []) ps
-  AreOf-past xs ps n past a = record {
+  pub ArePiecesOf-past : (xs : List ℕ) (ps : List (ℕ × T)) (n : ℕ) → count ≤ n → ArePiecesOf g f count xs ps → ArePiecesOf g f count (xs ++ n ∷ []) ps
+  ArePiecesOf-past xs ps n past a = record {
     numbers = a.numbers ∙ sym (filter-append (λ k. nat_lt k count) xs (n ∷ []) ∙ ap (λ l. filter (λ k. nat_lt k count) xs ++ l) (drops_past n count past) ∙ append-nil (filter (λ k. nat_lt k count) xs));
     values = a.values;
   }
 
   -- no more pieces than claims
-  pub AreOf-fewer : (xs : List ℕ) (ps : List (ℕ × T)) → AreOf g f count xs ps → length ps ≤ length xs
-  AreOf-fewer xs ps a =
+  pub ArePiecesOf-fewer : (xs : List ℕ) (ps : List (ℕ × T)) → ArePiecesOf g f count xs ps → length ps ≤ length xs
+  ArePiecesOf-fewer xs ps a =
       let n = length-map ps (λ (p : ℕ × T). p.0) in
       let e = ap (λ (l : List ℕ). length l) a.numbers in
       let l = length-filter (λ k. nat_lt k count) xs in
@@ -81,9 +81,9 @@ module _ {F T : Type 0} (g : Shared F (ℕ × Unit {0}) T) (f : F) (count : ℕ)
   AreDone-append xs ys ps qs a b =
       let l = length-append xs ys in
       let k = length-append ps qs in
-      let fewer = AreOf-fewer ys qs b.are_of in
+      let fewer = ArePiecesOf-fewer ys qs b.are_of in
       record {
-        are_of = AreOf-append xs ys ps qs a.are_of b.are_of;
+        are_of = ArePiecesOf-append xs ys ps qs a.are_of b.are_of;
         past = ⊎_elim (λ h. inl (omega (arith, h, l))) (λ h. inr (omega (arith, h, l, k, fewer))) a.past;
       }
 
@@ -93,8 +93,8 @@ module _ {F T : Type 0} (g : Shared F (ℕ × Unit {0}) T) (f : F) (count : ℕ)
       let done : AreDone g f count xs ps → AreDone g f count ys qs → AreDone g f count both (ps ++ qs) = λ a b. rw joined (AreDone-append xs ys ps qs a b) in
       on_ok_weaker r (λ a. on_ok_weaker s (done a) second) first
 
-  pub AreOf-each : (xs : List ℕ) (ps : List (ℕ × T)) → count < length xs → HasEachBelow (length xs) xs → AreOf g f count xs ps → HasEachBelow count (numbers ps)
-  AreOf-each xs ps past each a = rw a.numbers (each_below_filter count (length xs) xs (omega (arith, past)) each)
+  pub ArePiecesOf-each : (xs : List ℕ) (ps : List (ℕ × T)) → count < length xs → HasEachBelow (length xs) xs → ArePiecesOf g f count xs ps → HasEachBelow count (numbers ps)
+  ArePiecesOf-each xs ps past each a = rw a.numbers (each_below_filter count (length xs) xs (omega (arith, past)) each)
 
   -- where each number was claimed once and nothing is left to claim, more than the count was claimed
   pub AreDone-past : (xs : List ℕ) (ps : List (ℕ × T)) → HasEachBelow (length xs) xs → AreDone g f count xs ps → count < length xs
@@ -108,7 +108,7 @@ module _ {F T : Type 0} (g : Shared F (ℕ × Unit {0}) T) (f : F) (count : ℕ)
   pub AreDone-all : (xs : List ℕ) (ps : List (ℕ × T)) → HasEachBelow (length xs) xs → AreDone g f count xs ps → (count < length xs) × HasEachBelow count (numbers ps) × (length ps ≡ count)
   AreDone-all xs ps each done =
       let past = AreDone-past xs ps each done in
-      let numbered = AreOf-each xs ps past each done.are_of in
+      let numbered = ArePiecesOf-each xs ps past each done.are_of in
       let l = length_of_each count (numbers ps) numbered in
       let k = length-map ps (λ (p : ℕ × T). p.0) in
       (past, numbered, omega (arith, l, k))

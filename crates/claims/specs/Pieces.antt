@@ -20,7 +20,7 @@ abbrev pub numbers : {T : Type 0} → List (ℕ × T) → List ℕ
 numbers pieces = map (λ p. p.0) pieces
 
 -- the pieces are what was claimed below count, each with a value that a call of f gave there
-pub record AreOf {F T : Type 0} (g : Shared F (ℕ × Unit {0}) T) (f : F)
+pub record ArePiecesOf {F T : Type 0} (g : Shared F (ℕ × Unit {0}) T) (f : F)
     (count : ℕ) (claimed : List ℕ) (pieces : List (ℕ × T)) : Type 0 where
   pub numbers : numbers pieces ≡ filter (λ k. nat_lt k count) claimed
   pub values : All (λ p. FnReturns g f (p.0, tt) p.1) pieces
@@ -28,7 +28,7 @@ pub record AreOf {F T : Type 0} (g : Shared F (ℕ × Unit {0}) T) (f : F)
 -- and nothing is left to claim: more was claimed than the count, or a number that is not below it
 pub record AreDone {F T : Type 0} (g : Shared F (ℕ × Unit {0}) T) (f : F)
     (count : ℕ) (claimed : List ℕ) (pieces : List (ℕ × T)) : Type 0 where
-  pub are_of : AreOf g f count claimed pieces
+  pub are_of : ArePiecesOf g f count claimed pieces
   pub past : (count < length claimed) ⊎ (length pieces < length claimed)
 
 -- the most numbers that one worker claims in one turn, which ends where a helper joins in
@@ -41,7 +41,7 @@ pub record IsAtWork {F T : Type 0} (g : Shared F (ℕ × Unit {0}) T) (f : F) (c
   pub own : pass.claims ≡ claims
   pub some : 1 ≤ pass.parts
   pub whole : KnowsWhole pass.parts pass.claimed
-  pub are_of : AreOf g f count pass.claimed pieces
+  pub are_of : ArePiecesOf g f count pass.claimed pieces
 
 -- the same pass after the turns of workers, each of whom has a part: these are fewer than twice the
 -- parts, by so many at least

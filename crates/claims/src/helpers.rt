@@ -24,7 +24,7 @@ impl Model for Helpers {
 }
 
 impl Helpers {
-    /// So many idle workers, for each of whom so many pieces are enough.
+    /// `count` idle workers; `fewest` pieces are enough for one.
     pub fn new(count: u32, fewest: usize) -> Helpers
         ensures { result ≡ fewest }
     {

@@ -4,7 +4,7 @@ ghost use Rattle.std.specs.Prelude.{◌≡◌, ◌<◌, ◌≤◌, ◌+◌, ◌+
 ghost use Rattle.std.specs.Fork.{GivesEach};
 ghost use Rattle.std.specs.Thread.{IsSync, IsSend};
 ghost use Rattle.claims.specs.ClaimWord.{HasEachBelow, KnowsWhole, pass_state};
-ghost use Rattle.claims.specs.Pieces.{AreDone, AreOf, IsAtWork, IsHelped};
+ghost use Rattle.claims.specs.Pieces.{AreDone, ArePiecesOf, IsAtWork, IsHelped};
 
 use crate::claim_word::{ALL_PARTS, Claims, Pass};
 use crate::helpers::Helpers;
@@ -169,7 +169,8 @@ fn in_halves<R: Threads + Sync, T: Send + Drop, F: Fn(usize) -> T + Sync, G: Gat
     requires count { job.now.work.count < 2 ^ 32 }
     requires accepts { (k : ℕ) → k < job.now.work.count → F.pre job.now.work.f.now k }
     ensures pass { IsHelped job.now.work.count 2 pass.old pass.new }
-    ensures pieces { OnOk result.0 (OnOk result.1 (AreDone F.Fn job.now.work.f.now job.now.work.count
+    ensures pieces { OnOk result.0 (OnOk result.1
+        (AreDone F.Fn job.now.work.f.now job.now.work.count
         pass.new.claimed (pieces.new.items ++ rest.new.items))) }
 {
     let theirs = pass.parts() / 2;
@@ -258,7 +259,7 @@ fn worked<R, T: Drop, F: Fn(usize) -> T, G: Gate>(
     ensures whole { KnowsWhole pass.new.parts pass.new.claimed }
     ensures few { length pass.new.claimed ≤ length pass.old.claimed + 16 }
     ensures of { OnOk result
-        (AreOf F.Fn work.now.f.now work.now.count pass.new.claimed pieces.new.items) }
+        (ArePiecesOf F.Fn work.now.f.now work.now.count pass.new.claimed pieces.new.items) }
     ensures more { IfOk result (λ left. IfSome left (λ _. length pass.new.claimed
         ≡ length pass.old.claimed + 16)) }
     ensures done { IfOk result (λ left. IfNone left

@@ -21,34 +21,42 @@ other_players players row column =
 abbrev pub others_counts : GameTable → ℕ → ℕ → List ℕ
 others_counts t row column = slice_set (slice_set (strategy_counts t) row 1) column 1
 
--- a choice of the others: the strategies of all players, 0 for the row player and the column player
-abbrev pub choice_at : GameTable → ℕ → ℕ → ℕ → List ℕ
-choice_at t row column k = profile_at (others_counts t row column) k
+-- the choice of the others with a number: the strategies of all players, 0 for the row player and the
+-- column player
+abbrev pub others_choice : GameTable → ℕ → ℕ → ℕ → List ℕ
+others_choice t row column k = profile_at (others_counts t row column) k
 
+-- how many strategies a player has
 abbrev pub strategy_count : GameTable → ℕ → ℕ
 strategy_count t i = slice_index (strategy_counts t) i
 
+-- a player's name
 abbrev pub player_name : GameTable → ℕ → List ℕ
 player_name t i = slice_index_or t.players i []
 
+-- the names of a player's strategies
 abbrev pub strategy_names : GameTable → ℕ → List (List ℕ)
 strategy_names t i = slice_index_or t.strategies i []
 
+-- the name of a player's strategy
 abbrev pub strategy_name : GameTable → ℕ → ℕ → List ℕ
 strategy_name t i s = slice_index_or (strategy_names t i) s []
 
--- the payoffs at the profile with a number: the row player's, the column player's and the others'
+-- one player's payoff at the profile with a number
 abbrev pub payoff_text : GameTable → ℕ → ℕ → List ℕ
 payoff_text t number i = number_text ((game_of t).pays i number)
 
+-- a payoff after another one of the same profile
 abbrev pub later_payoff_text : GameTable → ℕ → ℕ → List ℕ
 later_payoff_text t number i = codes "," ++ payoff_text t number i
 
+-- the payoffs at the profile with a number: the row player's, the column player's and the others'
 abbrev pub payoffs_text : GameTable → ℕ → ℕ → ℕ → List ℕ
 payoffs_text t row column number =
     payoff_text t number row
     ++ flat_map (later_payoff_text t number) (column ∷ other_players (length t.players) row column)
 
+-- the cell with the payoffs at the profile with a number
 abbrev pub cell_text : Style → GameTable → ℕ → ℕ → ℕ → List ℕ
 cell_text style t row column number =
     mark_text style CellStart ++ payoffs_text t row column number ++ mark_text style CellEnd
@@ -58,24 +66,29 @@ abbrev pub cell_number : GameTable → ℕ → ℕ → List ℕ → ℕ → ℕ 
 cell_number t row column choice r c =
     number_of (strategy_counts t) (slice_set (slice_set choice row r) column c)
 
+-- the cells of row r, column by column
 abbrev pub cells_text : Style → GameTable → ℕ → ℕ → List ℕ → ℕ → List ℕ
 cells_text style t row column choice r =
     flat_map (λ c. cell_text style t row column (cell_number t row column choice r c))
     (range_with_len 0 (strategy_count t column))
 
+-- what ends row r of so many rows
 abbrev pub row_end : Style → ℕ → ℕ → List ℕ
 row_end style rows r = mark_text style (if suc r == rows then LastRowEnd else RowEnd)
 
+-- row r: the strategy's name and the cells
 abbrev pub row_text : Style → GameTable → ℕ → ℕ → List ℕ → ℕ → List ℕ
 row_text style t row column choice r =
     marked_text style RowStart (strategy_name t row r) RowNameEnd
     ++ cells_text style t row column choice r
     ++ row_end style (strategy_count t row) r
 
+-- all rows, in order
 abbrev pub rows_text : Style → GameTable → ℕ → ℕ → List ℕ → List ℕ
 rows_text style t row column choice =
     flat_map (row_text style t row column choice) (range_with_len 0 (strategy_count t row))
 
+-- the name of one of the column player's strategies, as the head of its column
 abbrev pub column_text : Style → List ℕ → List ℕ
 column_text style name = marked_text style ColumnStart name ColumnEnd
 
@@ -92,6 +105,7 @@ abbrev pub table_start : Style → GameTable → ℕ → ℕ → List ℕ
 table_start Html t row column = codes "<table>\n<tr><th></th>"
 table_start Sgame t row column = sgame_start t row column
 
+-- the table's start and the heads of its columns
 abbrev pub columns_text : Style → GameTable → ℕ → ℕ → List ℕ
 columns_text style t row column =
     table_start style t row column
@@ -103,6 +117,7 @@ chosen_text style t choice i =
     name_text style (player_name t i) ++ codes "="
     ++ name_text style (strategy_name t i (slice_index choice i))
 
+-- the same after another player
 abbrev pub later_chosen_text : Style → GameTable → List ℕ → ℕ → List ℕ
 later_chosen_text style t choice i = codes ", " ++ chosen_text style t choice i
 
@@ -121,13 +136,15 @@ table_text style t row column choice =
     ++ rows_text style t row column choice
     ++ mark_text style TableEnd
 
+-- the game's title, which stands in HTML alone
 abbrev pub title_text : Style → List ℕ → List ℕ
 title_text Html title = codes "<h1>" ++ name_text Html title ++ codes "</h1>\n"
 title_text Sgame title = []
 
+-- the tables of all choices of the others, in order
 abbrev pub tables_text : Style → GameTable → ℕ → ℕ → List ℕ
 tables_text style t row column =
-    flat_map (λ k. table_text style t row column (choice_at t row column k))
+    flat_map (λ k. table_text style t row column (others_choice t row column k))
     (range_with_len 0 (profile_count (others_counts t row column)))
 
 -- the title, and a table for each choice of the others, the first of whom changes fastest

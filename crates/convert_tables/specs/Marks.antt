@@ -6,6 +6,7 @@ use Rattle.convert_tables.specs.declared.marks.Style.TheVariants.{Html, Sgame}
 use Rattle.convert_tables.specs.declared.marks.Mark.{Mark}
 use Rattle.convert_tables.specs.declared.marks.Mark.TheVariants.{HeadingStart, HeadingEnd, ColumnStart, ColumnEnd, ColumnsEnd, RowStart, RowNameEnd, CellStart, CellEnd, RowEnd, LastRowEnd, TableEnd}
 
+-- the text of a mark in HTML
 abbrev pub html_mark : Mark → List ℕ
 html_mark HeadingStart = codes "<h2>"
 html_mark HeadingEnd = codes "</h2>\n"
@@ -20,6 +21,7 @@ html_mark RowEnd = codes "</tr>\n"
 html_mark LastRowEnd = codes "</tr>\n"
 html_mark TableEnd = codes "</table>\n"
 
+-- the text of a mark in a game of sgame
 abbrev pub sgame_mark : Mark → List ℕ
 sgame_mark HeadingStart = []
 sgame_mark HeadingEnd = codes "\n"
@@ -34,6 +36,7 @@ sgame_mark RowEnd = codes " \\\\\n"
 sgame_mark LastRowEnd = codes "\n"
 sgame_mark TableEnd = codes "\\end{game}\n"
 
+-- the text of a mark in a style
 abbrev pub mark_text : Style → Mark → List ℕ
 mark_text Html = html_mark
 mark_text Sgame = sgame_mark

@@ -14,7 +14,7 @@ use Rattle.file_parts.specs.Parsing.{Parsed, IsPartStop, wanted}
 use Rattle.file_parts.proofs.ParseLemmas.{refused_first}
 use Rattle.file_parts.proofs.ReaderLemmas.{bind_ok, ok_same, err_same, ok_err}
 use Rattle.written_trees.specs.Written.{SetUse, OutcomeUse}
-use Rattle.written_trees.specs.Building.{PartialTree, Branching, PartialSet, PartialOutcome, set_place, outcome_place, passed, new_set, used_set, new_outcome, used_outcome, Choice, with_parts}
+use Rattle.written_trees.specs.Building.{PartialTree, Branching, PartialSet, PartialOutcome, set_place, outcome_place, passed, new_set, used_set, new_outcome, used_outcome, UsedSet, with_parts}
 use Rattle.tree_grammar.specs.TreePieces.{begins_node}
 use Rattle.tree_grammar.specs.TreeParsing.{grown_at, grown, bare_use, parse_first_list, parse_later_list, parse_use, parse_set, parse_player, parse_set_choice, parse_own_choice, parse_after, parse_choice, bare_outcome_use, parse_first_payoffs, parse_later_payoffs, parse_outcome_use, parse_named, parse_outcome, parse_next, parse_at, within_limit}
 use Rattle.tree_grammar.specs.declared.kinds.EfgKind.{EfgKind}
@@ -61,14 +61,14 @@ unfolding parse_next
 choice_refused players partial tokens stopped m r = rw (at_is players partial partial.branchings tokens m) (refused_stop stopped (parse_next players partial m.first m.others tokens) (refused_first stopped (parse_choice players (length partial.nodes) partial.sets tokens) _ r))
 
 -- the outcome is not read
-pub outcome_refused : (players : ℕ) (partial : PartialTree) (tokens : List Token) (stopped : PartStop EfgKind) (c : Choice × List Token) → MayStand partial partial.branchings tokens → parse_choice players (length partial.nodes) partial.sets tokens ≡ Ok c → IsPartStop stopped (parse_outcome players partial.outcomes c.1) → IsStop (Refused stopped) (parse_at players partial partial.branchings tokens)
+pub outcome_refused : (players : ℕ) (partial : PartialTree) (tokens : List Token) (stopped : PartStop EfgKind) (c : UsedSet × List Token) → MayStand partial partial.branchings tokens → parse_choice players (length partial.nodes) partial.sets tokens ≡ Ok c → IsPartStop stopped (parse_outcome players partial.outcomes c.1) → IsStop (Refused stopped) (parse_at players partial partial.branchings tokens)
 unfolding parse_next
 outcome_refused players partial tokens stopped c m e r =
     let refused : IsPartStop stopped (parse_next players partial m.first m.others tokens) = rw e (refused_first stopped (parse_outcome players partial.outcomes c.1) _ r) in
     rw (at_is players partial partial.branchings tokens m) (refused_stop stopped (parse_next players partial m.first m.others tokens) refused)
 
 -- both are read, and the tree grows
-pub node_added : (players : ℕ) (partial more : PartialTree) (tokens : List Token) (c : Choice × List Token) (o : (List PartialOutcome × Option ℕ) × List Token) → MayStand partial partial.branchings tokens → parse_choice players (length partial.nodes) partial.sets tokens ≡ Ok c → parse_outcome players partial.outcomes c.1 ≡ Ok o
+pub node_added : (players : ℕ) (partial more : PartialTree) (tokens : List Token) (c : UsedSet × List Token) (o : (List PartialOutcome × Option ℕ) × List Token) → MayStand partial partial.branchings tokens → parse_choice players (length partial.nodes) partial.sets tokens ≡ Ok c → parse_outcome players partial.outcomes c.1 ≡ Ok o
     → grown (with_uses partial c.0.0 o.0.0) c.0.1.0 c.0.1.1 o.0.1 ≡ Some more → parse_at players partial partial.branchings tokens ≡ Ok (more, o.1)
 unfolding parse_next
 node_added players partial more tokens c o m e f g =
@@ -103,34 +103,34 @@ set_adds k sets owner tokens x e =
     let few = use_adds k sets used found (optional_text_at a.0.1).1 b.0 b.1 in
     omega (arith, same, few)
 
-set_choice_adds : (k : ℕ) (sets : List PartialSet) (owner : Option ℕ) (tokens : List Token) (x : Choice × List Token) → parse_set_choice k sets owner tokens ≡ Ok x → length x.0.0 ≤ suc (length sets)
+set_choice_adds : (k : ℕ) (sets : List PartialSet) (owner : Option ℕ) (tokens : List Token) (x : UsedSet × List Token) → parse_set_choice k sets owner tokens ≡ Ok x → length x.0.0 ≤ suc (length sets)
 unfolding parse_set_choice
 set_choice_adds k sets owner tokens x e =
     let a = bind_ok (parse_set k sets owner tokens) _ x e in
-    let same : length a.0.0.0 ≡ length x.0.0 = ap (λ (z : Choice × List Token). length z.0.0) (ok_same _ x a.2) in
+    let same : length a.0.0.0 ≡ length x.0.0 = ap (λ (z : UsedSet × List Token). length z.0.0) (ok_same _ x a.2) in
     let few = set_adds k sets owner tokens a.0 a.1 in
     omega (arith, same, few)
 
-own_choice_adds : (players k : ℕ) (sets : List PartialSet) (tokens : List Token) (x : Choice × List Token) → parse_own_choice players k sets tokens ≡ Ok x → length x.0.0 ≤ suc (length sets)
+own_choice_adds : (players k : ℕ) (sets : List PartialSet) (tokens : List Token) (x : UsedSet × List Token) → parse_own_choice players k sets tokens ≡ Ok x → length x.0.0 ≤ suc (length sets)
 unfolding parse_own_choice
 own_choice_adds players k sets tokens x e = let a = bind_ok (parse_player players tokens) _ x e in set_choice_adds k sets (Some a.0.0) a.0.1 x a.2
 
-after_adds : (players k : ℕ) (sets : List PartialSet) (word : List ℕ) (start tokens : List Token) (x : Choice × List Token) → parse_after players k sets word start tokens ≡ Ok x → length x.0.0 ≤ suc (length sets)
+after_adds : (players k : ℕ) (sets : List PartialSet) (word : List ℕ) (start tokens : List Token) (x : UsedSet × List Token) → parse_after players k sets word start tokens ≡ Ok x → length x.0.0 ≤ suc (length sets)
 after_adds players k sets word start tokens x e = elim (cases_Bool (bytes_eq word (codes "c"))) [
   | inl c ↦ let f : parse_set_choice k sets None tokens ≡ Ok x = rw c at e in set_choice_adds k sets None tokens x f
   | inr c ↦ elim (cases_Bool (bytes_eq word (codes "p"))) [
     | inl p ↦ let f : parse_own_choice players k sets tokens ≡ Ok x = rw (c, p) at e in own_choice_adds players k sets tokens x f
     | inr p ↦ elim (cases_Bool (bytes_eq word (codes "t"))) [
       | inl t ↦
-          let f : ◌≡◌ {A = Parsed EfgKind Choice} (Ok ((sets, (End, None)), tokens)) (Ok x) = rw (c, p, t) at e in
-          let same : length sets ≡ length x.0.0 = ap (λ (z : Choice × List Token). length z.0.0) (ok_same _ x f) in
+          let f : ◌≡◌ {A = Parsed EfgKind UsedSet} (Ok ((sets, (End, None)), tokens)) (Ok x) = rw (c, p, t) at e in
+          let same : length sets ≡ length x.0.0 = ap (λ (z : UsedSet × List Token). length z.0.0) (ok_same _ x f) in
           omega (arith, same)
-      | inr t ↦ let f : ◌≡◌ {A = Parsed EfgKind Choice} (Err (Node, start)) (Ok x) = rw (c, p, t) at e in absurd (ok_err x (Node, start) (sym f))
+      | inr t ↦ let f : ◌≡◌ {A = Parsed EfgKind UsedSet} (Err (Node, start)) (Ok x) = rw (c, p, t) at e in absurd (ok_err x (Node, start) (sym f))
     ]
   ]
 ]
 
-pub few_sets_more : (players k : ℕ) (sets : List PartialSet) (tokens : List Token) (x : Choice × List Token) → parse_choice players k sets tokens ≡ Ok x → length x.0.0 ≤ suc (length sets)
+pub few_sets_more : (players k : ℕ) (sets : List PartialSet) (tokens : List Token) (x : UsedSet × List Token) → parse_choice players k sets tokens ≡ Ok x → length x.0.0 ≤ suc (length sets)
 unfolding parse_choice
 few_sets_more players k sets tokens x e =
     let w = bind_ok (wanted Node tokens (word_at tokens)) _ x e in

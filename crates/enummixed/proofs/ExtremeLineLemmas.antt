@@ -23,7 +23,7 @@ use Rattle.linear_systems.specs.Vertices.{MarkedPoint, IsVertexMark, AreVertices
 use Rattle.linear_systems.proofs.AlikeVertexLemmas.{vertices_alike}
 use Rattle.extreme_equilibria.specs.ExtremeEquilibria.{AreExtremeEquilibria}
 use Rattle.extreme_equilibria.specs.TwoPlayers.{pays_against}
-use Rattle.extreme_equilibria.specs.Bimatrix.{shifted, shift_of, IsBelowAll}
+use Rattle.extreme_equilibria.specs.Bimatrix.{shifted, shift_of, IsLowerBound}
 use Rattle.extreme_equilibria.specs.Systems.{first_system, second_system}
 use Rattle.extreme_equilibria.specs.PairLines.{scaled_point, HaveAllLabels, pair_line, IsPairLine, ArePairLines}
 use Rattle.extreme_equilibria.proofs.PairLineLemmas.{pair_lines_are_extreme_equilibria, listed_vertices_scale_differently}
@@ -64,10 +64,10 @@ module _ (g : Game) (one two : LinearSystem) (p : ArePolytopesOf g one two) wher
   number-below i j h l =
       subst (λ ns. number_of ns (i ∷ j ∷ []) < profile_count ns) (sym p.strategies) (number_of-below (p.m ∷ p.n ∷ []) (i ∷ j ∷ []) (h, (l, tt)))
 
-  first-below : IsBelowAll p.m p.n (pays_against g 0) p.least
+  first-below : IsLowerBound p.m p.n (pays_against g 0) p.least
   first-below i j h l = least_below g 0 p.least p.is_least (number_of g.strategies (i ∷ j ∷ [])) (number-below i j h l)
 
-  second-below : IsBelowAll p.n p.m (pays_against g 1) p.least'
+  second-below : IsLowerBound p.n p.m (pays_against g 1) p.least'
   second-below j i l h = least_below g 1 p.least' p.is_least' (number_of g.strategies (i ∷ j ∷ [])) (number-below i j h l)
 
 -- ---- points

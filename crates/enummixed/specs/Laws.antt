@@ -6,11 +6,11 @@ use Rattle.game_theory.specs.Profiles.{Game}
 use Rattle.extreme_equilibria.specs.ExtremeEquilibria.{AreExtremeEquilibria}
 use Rattle.enummixed.specs.ExtremeText.{VertexPairs, extreme_pairs, kept_text}
 
--- A game has one list of pairs, or one reason why it has none ..
+-- A game has at most one answer, a list of pairs or the reason why it has none ..
 abbrev pub ExtremePairsAreSingle : Type 0
 ExtremePairsAreSingle = (game : Game) → IsSingle (extreme_pairs game)
 
--- .. and one text, found by its own pairs or by those of another game.
+-- .. and at most one text, found by its own pairs or by those of another game.
 abbrev pub ExtremeTextsAreSingle : Type 0
 ExtremeTextsAreSingle = (game kept : Game) → IsSingle (kept_text game kept)
 

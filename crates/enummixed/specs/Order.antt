@@ -24,7 +24,7 @@ pub record ArePlacesInOrder (points : List (List ℚ)) (places : List ℕ) : Typ
   pub permutation : IsPermutation (range_with_len 0 (length points)) places
   pub sorted : IsSortedBy (λ i j. is_lt (place_order points i j)) places
 
--- the ranks of points are ordered as they are, where no point has the rank 0
+-- ranks are in the order of their points; a place without a point has the rank 0
 abbrev pub AreRanks : List (List ℚ) → List ℕ → Type 0
 AreRanks points ranks =
     (i j : ℕ) → nat_cmp (get_or ranks i 0) (get_or ranks j 0) ≡ place_order points i j

@@ -8,7 +8,7 @@ pub record IsSpreadOrEmpty (n : ℕ) (places : List ℕ) (point wide : List ℚ)
   pub spread : length point ≡ length places → IsSpreadPoint n places point wide
   pub empty : length point ≢ length places → wide ≡ []
 
--- each of the points is, at its place
+-- each point is spread so, at its place
 pub record AreSpreadPoints (n : ℕ) (places : List ℕ) (points wide : List (List ℚ)) : Type 0 where
   pub count : length wide ≡ length points
   pub each : (i : ℕ) → i < length points

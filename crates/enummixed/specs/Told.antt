@@ -4,8 +4,8 @@ use Rattle.enumpure.specs.declared.listing.ListStop.{ListStop}
 use Rattle.enumpure.specs.declared.listing.ListStop.TheVariants as list
 use Rattle.reply_polytope.specs.declared.stop.PolyStop.{PolyStop}
 use Rattle.reply_polytope.specs.declared.stop.PolyStop.TheVariants as poly
-use Rattle.basis_enum.specs.declared.stop.EnumStop.{EnumStop}
-use Rattle.basis_enum.specs.declared.stop.EnumStop.TheVariants as enum
+use Rattle.basis_enum.specs.declared.stop.EnumerationStop.{EnumerationStop}
+use Rattle.basis_enum.specs.declared.stop.EnumerationStop.TheVariants as enum
 use Rattle.label_pairing.specs.declared.pairing.PairStop.{PairStop}
 use Rattle.label_pairing.specs.declared.pairing.PairStop.TheVariants as pair
 use Rattle.label_pairing.specs.declared.scaling.ScaleStop.{ScaleStop}
@@ -21,7 +21,7 @@ polytopes_stop (poly.Range player profile unfit) = stops.Shift player profile un
 polytopes_stop poly.Memory = stops.Memory
 
 -- the vertices of a polytope are not listed
-abbrev pub enumeration_stop : ℕ → EnumStop → MixedStop
+abbrev pub enumeration_stop : ℕ → EnumerationStop → MixedStop
 enumeration_stop polytope (enum.Start row unfit) = stops.Start polytope row unfit
 enumeration_stop polytope (enum.Range level basis entering unfit) =
     stops.Range polytope level basis entering unfit

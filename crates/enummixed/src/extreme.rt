@@ -13,12 +13,12 @@ ghost use Rattle.enummixed.specs.ExtremeText.{extreme_pairs};
 ghost use Rattle.enummixed.specs.Pairs.{pairs_of, AreScaled};
 ghost use Rattle.enummixed.specs.Told.{enumeration_stop, scale_stop};
 ghost use Rattle.enummixed.specs.Used.{occurs, used_points, scaled_used, scaling_in};
-ghost use Rattle.basis_enum.specs.declared.stop.EnumStop.TheVariants as enum_stops;
+ghost use Rattle.basis_enum.specs.declared.stop.EnumerationStop.TheVariants as enum_stops;
 ghost use Rattle.enummixed.specs.declared.stop.MixedStop.TheVariants as stops;
 
 use crate::points::{all_labels, scaled_points, used_places};
 use crate::stop::MixedStop;
-use basis_enum::{EnumStop, Vertex, Vertices, enumerate_with};
+use basis_enum::{EnumerationStop, Vertex, Vertices, enumerate_with};
 use claims::{FEWEST_SHARED, Helpers, make_room};
 use frac128::{Frac, Memory};
 use game_core::Table;
@@ -63,7 +63,7 @@ fn enumerated<R: Threads + Sync, G: Gate, L: Ledger>(
     helpers: &Helpers,
     gate: &G,
     blank: Blank,
-) -> Result<Vertices, EnumStop>
+) -> Result<Vertices, EnumerationStop>
     requires enumerable { IsEnumerable system.now }
     requires blank { (L.parts ≡ blank.parts) × (L.name ≡ blank.name) × (0 < blank.parts) }
     ensures vertices { Gives enum_stops.Memory (vertices_in system.now)

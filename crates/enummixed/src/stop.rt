@@ -2,7 +2,7 @@
 ghost use Rattle.std.specs.Prelude.{◌≡◌};
 ghost use Rattle.enummixed.specs.Told.{enumeration_stop, scale_stop};
 
-use basis_enum::{Basis, EnumStop};
+use basis_enum::{Basis, EnumerationStop};
 use enumpure::ListStop;
 use frac128::{Memory, Unfit};
 use game_core::TooLarge;
@@ -65,16 +65,16 @@ pub enum MixedStop {
 
 impl MixedStop {
     // Why the vertices of a polytope are not listed.
-    pub(crate) fn of_enumeration(polytope: u32, stop: EnumStop) -> MixedStop
+    pub(crate) fn of_enumeration(polytope: u32, stop: EnumerationStop) -> MixedStop
         ensures { result ≡ enumeration_stop polytope stop }
     {
         match stop {
-            EnumStop::Start { row, unfit } => MixedStop::Start {
+            EnumerationStop::Start { row, unfit } => MixedStop::Start {
                 polytope,
                 row,
                 unfit,
             },
-            EnumStop::Range {
+            EnumerationStop::Range {
                 level,
                 basis,
                 entering,
@@ -86,8 +86,8 @@ impl MixedStop {
                 entering,
                 unfit,
             },
-            EnumStop::TooLarge(limit) => MixedStop::TooLarge(limit),
-            EnumStop::Memory => MixedStop::Memory,
+            EnumerationStop::TooLarge(limit) => MixedStop::TooLarge(limit),
+            EnumerationStop::Memory => MixedStop::Memory,
         }
     }
 

@@ -5,7 +5,7 @@ use Rattle.std.proofs.lemmas.List.{get_or-set_same, get_or-set_other}
 use Rattle.std.proofs.Math.Nat.{mul-le-mul_left}
 use Rattle.rational.specs.Rational.{ℚ, ◌≤ℚ◌, ◌<ℚ◌}
 use Rattle.rational.proofs.Field.{le_refl, le_trans, le_of_lt, le_of_not_lt, not_le_of_lt}
-use Rattle.enumpure.specs.Replies.{plays_best, IsBest, KeepsBestInLine}
+use Rattle.enumpure.specs.Replies.{plays_best, IsGreatestInLine, KeepsBestInLine}
 
 -- what holds below n and at n holds below n + 1
 below_next : (P : ℕ → Type 0) (n : ℕ) → ((s : ℕ) → s < n → P s) → P n → (s : ℕ) → s < n + 1 → P s
@@ -16,8 +16,8 @@ below_next P n h p s l = go (cases_eq s n)
     go (inr e) = h s (omega arith)
 
 -- the best of the first number alone
-pub IsBest-one : (p : ℕ → ℚ) (first stride : ℕ) → IsBest p first stride 1 (p first)
-IsBest-one p first stride =
+pub IsGreatestInLine-one : (p : ℕ → ℚ) (first stride : ℕ) → IsGreatestInLine p first stride 1 (p first)
+IsGreatestInLine-one p first stride =
     let e : first + stride * 0 ≡ first = omega arith in
     record { upper = λ s l. at_zero s (omega arith) e; attained = (0, omega arith, ap p (sym e)) }
   where
@@ -25,16 +25,16 @@ IsBest-one p first stride =
     at_zero s z e = subst (λ v. p v ≤ℚ p first) (sym (ap (λ x. first + stride * x) z ∙ e)) (le_refl (p first))
 
 -- a greater number is the best of one number more
-pub IsBest-greater : (p : ℕ → ℚ) (first stride n : ℕ) (best other : ℚ) → IsBest p first stride n best → other ≡ p (first + stride * n) → best <ℚ other → IsBest p first stride (n + 1) other
-IsBest-greater p first stride n best other h e l =
+pub IsGreatestInLine-greater : (p : ℕ → ℚ) (first stride n : ℕ) (best other : ℚ) → IsGreatestInLine p first stride n best → other ≡ p (first + stride * n) → best <ℚ other → IsGreatestInLine p first stride (n + 1) other
+IsGreatestInLine-greater p first stride n best other h e l =
     record {
       upper = below_next (λ s. p (first + stride * s) ≤ℚ other) n (λ s b. le_trans _ best other (h.upper s b) (le_of_lt best other l)) (subst (λ v. v ≤ℚ other) e (le_refl other));
       attained = (n, omega arith, e);
     }
 
 -- without a greater number the best stays
-pub IsBest-same : (p : ℕ → ℚ) (first stride n : ℕ) (best other : ℚ) → IsBest p first stride n best → other ≡ p (first + stride * n) → (best <ℚ other → ⊥) → IsBest p first stride (n + 1) best
-IsBest-same p first stride n best other h e l =
+pub IsGreatestInLine-same : (p : ℕ → ℚ) (first stride n : ℕ) (best other : ℚ) → IsGreatestInLine p first stride n best → other ≡ p (first + stride * n) → (best <ℚ other → ⊥) → IsGreatestInLine p first stride (n + 1) best
+IsGreatestInLine-same p first stride n best other h e l =
     record {
       upper = below_next (λ s. p (first + stride * s) ≤ℚ best) n h.upper (subst (λ v. v ≤ℚ best) e (le_of_not_lt other best l));
       attained = (h.attained.0, omega (arith, h.attained.1), h.attained.2);

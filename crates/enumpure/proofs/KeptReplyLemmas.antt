@@ -4,7 +4,7 @@ use Rattle.std.proofs.lemmas.Bool.{cases_eq}
 use Rattle.rational.specs.Rational.{ℚ, ◌≤ℚ◌}
 use Rattle.rational.proofs.Field.{le_trans}
 use Rattle.game_theory.specs.Profiles.{Game, profile_count, stride}
-use Rattle.enumpure.specs.Replies.{exchanged, PlaysBestReply, plays_best, IsBest, KeepsBestInLine, KeepsBestReplies, AreMutualBestReplies}
+use Rattle.enumpure.specs.Replies.{exchanged, PlaysBestReply, plays_best, IsGreatestInLine, KeepsBestInLine, KeepsBestReplies, AreMutualBestReplies}
 use Rattle.enumpure.proofs.ExchangeLemmas.{strategy_at, strategy_at-below, exchanged-below, exchanged-again, strategy_at-exchanged, exchanged-own, exchanged-first}
 
 -- The best replies after the profiles with numbers below `first` were looked at: those of the profiles that come
@@ -31,12 +31,12 @@ KeepsBestBelow-skip g i old new first l b ne h = record { done = λ k p e. h.don
     other k p e = ne (ap (λ v. strategy_at g.strategies v i) (sym e) ∙ strategy_at-exchanged g.strategies k i 0 (record { number = p; player = l }) b)
 
 -- the best payoff is reached exactly by best replies
-best-reached : (g : Game) (i k first : ℕ) (best : ℚ) → ((s : ℕ) → exchanged g.strategies k i s ≡ first + stride g.strategies i * s) → IsBest (g.pays i) first (stride g.strategies i) (get_or g.strategies i 0) best → (best ≤ℚ g.pays i k) ↔ PlaysBestReply g i k
+best-reached : (g : Game) (i k first : ℕ) (best : ℚ) → ((s : ℕ) → exchanged g.strategies k i s ≡ first + stride g.strategies i * s) → IsGreatestInLine (g.pays i) first (stride g.strategies i) (get_or g.strategies i 0) best → (best ≤ℚ g.pays i k) ↔ PlaysBestReply g i k
 best-reached g i k first best e h =
     (λ l s b. le_trans _ best _ (subst (λ v. g.pays i v ≤ℚ best) (sym (e s)) (h.upper s b)) l, λ r. subst (λ v. v ≤ℚ g.pays i k) (ap (g.pays i) (e h.attained.0) ∙ sym h.attained.2) (r h.attained.0 h.attained.1))
 
 -- a profile with strategy 0 settles those that come from it by an exchange
-pub KeepsBestBelow-step : (g : Game) (i : ℕ) (old mid new : List Bool) (first : ℕ) (best : ℚ) → first < profile_count g.strategies → i < length g.strategies → 0 < get_or g.strategies i 0 → strategy_at g.strategies first i ≡ 0 → IsBest (g.pays i) first (stride g.strategies i) (get_or g.strategies i 0) best → KeepsBestInLine (g.pays i) first (stride g.strategies i) (get_or g.strategies i 0) best mid new → KeepsBestBelow g i old mid first → KeepsBestBelow g i old new (first + 1)
+pub KeepsBestBelow-step : (g : Game) (i : ℕ) (old mid new : List Bool) (first : ℕ) (best : ℚ) → first < profile_count g.strategies → i < length g.strategies → 0 < get_or g.strategies i 0 → strategy_at g.strategies first i ≡ 0 → IsGreatestInLine (g.pays i) first (stride g.strategies i) (get_or g.strategies i 0) best → KeepsBestInLine (g.pays i) first (stride g.strategies i) (get_or g.strategies i 0) best mid new → KeepsBestBelow g i old mid first → KeepsBestBelow g i old new (first + 1)
 KeepsBestBelow-step g i old mid new first best f l b z best_is in_line h =
     record { done = λ k p e. done k p e (cases_eq (exchanged ns k i 0) first); ahead = λ k p e. kept k p (λ q. absurd (omega arith)) ∙ h.ahead k p (omega arith) }
   where

@@ -20,12 +20,12 @@ abbrev pub plays_best : List Bool → ℕ → Bool
 plays_best best_replies k = slice_index_or best_replies k false
 
 -- the greatest of n numbers, which stand the stride apart
-pub record IsBest (pays : ℕ → ℚ) (first stride n : ℕ) (best : ℚ) : Type 0 where
+pub record IsGreatestInLine (pays : ℕ → ℚ) (first stride n : ℕ) (best : ℚ) : Type 0 where
   pub upper : (s : ℕ) → s < n → pays (first + stride * s) ≤ℚ best
   pub attained : (s : ℕ) × (s < n) × (best ≡ pays (first + stride * s))
 
--- of the profiles that stand the stride apart, those stay whose payoff reaches the best; all others
--- stay
+-- of the profiles that stand the stride apart only those stay whose payoff reaches the best; what is
+-- said of other profiles does not change
 pub record KeepsBestInLine (pays : ℕ → ℚ) (first stride n : ℕ) (best : ℚ) (old new : List Bool)
     : Type 0 where
   pub in_line : (s : ℕ) → s < n → IsTrue (plays_best new (first + stride * s))

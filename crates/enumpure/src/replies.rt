@@ -2,7 +2,7 @@
 ghost use Rattle.std.specs.Prelude.{◌≡◌, ℕ, ◌+◌, ◌*◌, ◌^◌, ◌<◌, IsTrue, IfOk, EachIndex, length};
 ghost use Rattle.game_theory.specs.Profiles.{Game, profile_count};
 ghost use Rattle.game_core.specs.Table.{game_of, strategy_counts};
-ghost use Rattle.enumpure.specs.Replies.{HasProfile, IsBest, IsColumnOf, KeepsBestInLine, KeepsBestReplies, AreMutualBestReplies, column_pays, plays_best};
+ghost use Rattle.enumpure.specs.Replies.{HasProfile, IsGreatestInLine, IsColumnOf, KeepsBestInLine, KeepsBestReplies, AreMutualBestReplies, column_pays, plays_best};
 
 use frac128::{Frac, Memory};
 use game_core::{Table, profile_count};
@@ -37,7 +37,7 @@ fn best_payoff(column: Column, stride: usize, strategies: usize, first: usize) -
     requires some { 0 < strategies }
     requires numbers { (s : ℕ) → s < strategies → first + stride * s < 2 ^ 64 }
     requires profiles { (s : ℕ) → s < strategies → HasProfile column (first + stride * s) }
-    ensures { IsBest (column_pays column.entry) first stride strategies result }
+    ensures { IsGreatestInLine (column_pays column.entry) first stride strategies result }
 {
     let mut best = column.pays(first);
     for strategy in 1..strategies {

@@ -1,6 +1,6 @@
 -- Best replies in the games at a node are those that make a choice an equilibrium there.
 use Rattle.std.proofs.Common.{ℕ, zero, suc, ◌<◌, ◌≤◌, ◌≡◌, ◌∙◌, inl, inr, Bool, true, false, Decides, List, Some, length, map, get_or, set, refl, sym, ap, subst, subst₂, arith}
-use Rattle.std.specs.Prelude.{◌==◌, ◌↔◌, if◌then◌else◌}
+use Rattle.std.specs.Prelude.{◌==◌, ◌↔◌, if◌then◌else◌, unwrap_or}
 use Rattle.std.specs.List.{range_with_len}
 use Rattle.std.proofs.lemmas.Bool.{cases_lt}
 use Rattle.std.proofs.lemmas.Bool.Decides.{Decides-eqb}
@@ -8,10 +8,9 @@ use Rattle.std.proofs.lemmas.List.{get_or-map, get_or-set_same, get_or-set_other
 use Rattle.std.proofs.lemmas.List.FromFn.{get_or-range_with_len, length-range_with_len}
 use Rattle.rational.specs.Rational.{◌+ℚ◌, ◌≤ℚ◌}
 use Rattle.enumpure.specs.Replies.{exchanged}
-use Rattle.game_core.specs.TreeGame.{or_zero}
 use Rattle.game_theory.specs.Behaviour.{Behaviour, IsChoice, is_own, pure, reply, value, value_to}
 use Rattle.game_theory.specs.Mixed.{sure}
-use Rattle.game_theory.specs.OwnSets.{own_counts, own_sets, player_sets}
+use Rattle.game_theory.specs.OwnSets.{action_counts, own_counts, own_sets, player_sets}
 use Rattle.game_theory.specs.Profiles.{IsProfile, number_of, profile_at, profile_count}
 use Rattle.game_theory.specs.Trees.{Tree, IsTree}
 use Rattle.game_theory.proofs.ChildLemmas.{over_children-none}
@@ -20,9 +19,9 @@ use Rattle.game_theory.proofs.ProfileNumberLemmas.{IsProfile-by_index, IsProfile
 use Rattle.game_theory.proofs.SubtreeLemmas.{value-agree}
 use Rattle.reduced_strategies.specs.Choices.{choice_at}
 use Rattle.reduced_strategies.proofs.SetLemmas.{choice_at-map}
-use Rattle.enumpure_trees.specs.Choices.{action_counts, numbered_choice, whole_choices}
+use Rattle.enumpure_trees.specs.Choices.{numbered_choice, whole_choices}
 use Rattle.enumpure_trees.specs.Games.{AllPlayBest, strategy_count}
-use Rattle.enumpure_trees.specs.Stability.{IsAgentEquilibriumAt, IsStableAt, agent_reply}
+use Rattle.enumpure_trees.specs.PassingChoices.{IsAgentEquilibriumAt, IsTestedEquilibriumAt, agent_reply}
 use Rattle.subgames.specs.Perfect.{IsEquilibriumAt}
 use Rattle.reduced_strategies.proofs.ChoiceListLemmas.{choice_at-exchanged, choice_at-kept, choice_at-within}
 use Rattle.enumpure_trees.proofs.ColumnLemmas.{game_at}
@@ -71,11 +70,11 @@ module _ (t : Tree) (w : IsTree t) (n : ℕ) (below : n < whole_choices t) where
             ap (λ c. sure c x) (after_exchange s ∙ choice_at-kept (player_sets t) (profile_at (action_counts t) n) j a s length-choice agent other)
 
   -- all agents play best replies exactly where no agent has a better one
-  agents_stable : (k : ℕ) → AllPlayBest (game_at true t k) n ↔ IsAgentEquilibriumAt t (pure (numbered_choice t n)) k
-  agents_stable k = (there, back)
+  agents_passing : (k : ℕ) → AllPlayBest (game_at true t k) n ↔ IsAgentEquilibriumAt t (pure (numbered_choice t n)) k
+  agents_passing k = (there, back)
     where
-      owner-at : (j i : ℕ) → j < length (player_sets t) → t.owner (get_or (player_sets t) j 0) ≡ Some i → get_or (map (λ s. or_zero (t.owner s)) (player_sets t)) j 0 ≡ i
-      owner-at j i agent own = get_or-map (λ s. or_zero (t.owner s)) (player_sets t) j 0 0 agent ∙ ap or_zero own
+      owner-at : (j i : ℕ) → j < length (player_sets t) → t.owner (get_or (player_sets t) j 0) ≡ Some i → get_or (map (λ s. unwrap_or (t.owner s) 0) (player_sets t)) j 0 ≡ i
+      owner-at j i agent own = get_or-map (λ s. unwrap_or (t.owner s) 0) (player_sets t) j 0 0 agent ∙ ap (λ o. unwrap_or o 0) own
 
       there : AllPlayBest (game_at true t k) n → IsAgentEquilibriumAt t (pure (numbered_choice t n)) k
       there all s i action inside own few =
@@ -90,13 +89,13 @@ module _ (t : Tree) (w : IsTree t) (n : ℕ) (below : n < whole_choices t) where
           subst (λ r. value t (agent_reply b r action) i k ≤ℚ value t b i k) at.2 (subst (λ v. v ≤ℚ value t b i k) (agent-value j action agent allowed i k) best_i)
 
       back : IsAgentEquilibriumAt t (pure (numbered_choice t n)) k → AllPlayBest (game_at true t k) n
-      back stable j l action few =
+      back passing j l action few =
           let agent : j < length (player_sets t) = omega (arith, l, length-map (player_sets t) t.actions) in
           let s = get_or (player_sets t) j 0 in
           let is = player_sets-tell t s (among_at (player_sets t) j 0 agent) in
           let allowed : action < t.actions s = subst (λ m. action < m) (get_or-map t.actions (player_sets t) j 0 0 agent) few in
           let b = pure (numbered_choice t n) in
-          let best = subst (λ v. v ≤ℚ value t b is.0 k) (sym (agent-value j action agent allowed is.0 k)) (stable s is.0 action is.1 is.2 allowed) in
+          let best = subst (λ v. v ≤ℚ value t b is.0 k) (sym (agent-value j action agent allowed is.0 k)) (passing s is.0 action is.1 is.2 allowed) in
           subst (λ o. value t (pure (numbered_choice t (exchanged (action_counts t) n j action))) o k ≤ℚ value t b o k) (sym (owner-at j is.0 agent is.2)) best
 
 -- ---- players
@@ -165,8 +164,8 @@ module _ (t : Tree) (w : IsTree t) (n : ℕ) (below : n < whole_choices t) (k : 
       subst₂ (λ x y. x < y) (sym (get_or-map choice (own_sets t i) j 0 0 here)) (sym (get_or-map t.actions (own_sets t i) j 0 0 here)) (allowed s own.0 own.1))
 
   -- all players play best replies exactly where no player has a better one
-  players_stable : AllPlayBest (game_at false t k) n ↔ IsEquilibriumAt t (pure (numbered_choice t n)) k
-  players_stable = (there, back)
+  players_passing : AllPlayBest (game_at false t k) n ↔ IsEquilibriumAt t (pure (numbered_choice t n)) k
+  players_passing = (there, back)
     where
       who : (i : ℕ) → i < t.players → get_or (range_with_len 0 t.players) i 0 ≡ i
       who i player = get_or-range_with_len 0 t.players i 0 player ∙ omega arith
@@ -186,18 +185,18 @@ module _ (t : Tree) (w : IsTree t) (n : ℕ) (below : n < whole_choices t) (k : 
           subst (λ v. v ≤ℚ value t b i k) same best_i
 
       back : IsEquilibriumAt t (pure (numbered_choice t n)) k → AllPlayBest (game_at false t k) n
-      back stable i l m few =
+      back passing i l m few =
           let player : i < t.players = omega (arith, l, own_numbers-length t) in
           let own = own_counts t i in
           let few_i : m < strategy_count t i = subst (λ x. m < x) (own_numbers-at t i player) few in
           let choice : ℕ → ℕ = λ s. choice_at (own_sets t i) (profile_at own m) s in
           let allowed : IsChoice t i choice = λ s inside is_own. choice_at-within t.actions (own_sets t i) (profile_at own m) s (IsProfile-profile_at own m few_i) (own_sets-has t i s inside is_own) in
           let b = pure (numbered_choice t n) in
-          let best = subst (λ v. v ≤ℚ value t b i k) (sym (player-value t w n below i m player few_i choice (λ s inside is_own. refl) k)) (stable i choice player allowed) in
+          let best = subst (λ v. v ≤ℚ value t b i k) (sym (player-value t w n below i m player few_i choice (λ s inside is_own. refl) k)) (passing i choice player allowed) in
           subst (λ o. value t (pure (numbered_choice t (exchanged (own_numbers t) n i m))) o k ≤ℚ value t b o k) (sym (who i player)) best
 
 -- ---- both
 -- all play best replies in the game at a node exactly where the choice is an equilibrium there
-pub stable-by_replies : (agents : Bool) (t : Tree) (n k : ℕ) → IsTree t → n < whole_choices t → AllPlayBest (game_at agents t k) n ↔ IsStableAt agents t (pure (numbered_choice t n)) k
-stable-by_replies true t n k w below = agents_stable t w n below k
-stable-by_replies false t n k w below = players_stable t w n below k
+pub passing-by_replies : (agents : Bool) (t : Tree) (n k : ℕ) → IsTree t → n < whole_choices t → AllPlayBest (game_at agents t k) n ↔ IsTestedEquilibriumAt agents t (pure (numbered_choice t n)) k
+passing-by_replies true t n k w below = agents_passing t w n below k
+passing-by_replies false t n k w below = players_passing t w n below k

@@ -5,14 +5,14 @@ use Rattle.std.proofs.Math.Path.{fun_ext}
 use Rattle.std.proofs.Math.Seq.{drop-cons}
 use Rattle.std.proofs.lemmas.Bool.{cases_eq}
 use Rattle.std.proofs.lemmas.List.{drop_all}
-use Rattle.game_theory.specs.OwnSets.{player_sets}
+use Rattle.game_theory.specs.OwnSets.{action_counts, player_sets}
 use Rattle.game_theory.specs.Profiles.{profile_at}
 use Rattle.game_theory.specs.Trees.{Tree, IsTree}
 use Rattle.game_theory.proofs.ProfileNumberLemmas.{IsProfile-profile_at}
 use Rattle.pure_payoffs.specs.Choices.{AreActions}
 use Rattle.reduced_strategies.specs.Choices.{choice_at}
 use Rattle.reduced_strategies.proofs.SetLemmas.{choice_at-first, choice_at-later}
-use Rattle.enumpure_trees.specs.Choices.{action_counts, numbered_choice, whole_choices}
+use Rattle.enumpure_trees.specs.Choices.{numbered_choice, whole_choices}
 use Rattle.enumpure_trees.proofs.WholeChoiceLemmas.{IsWholeChoice-profile}
 
 -- ---- what is chosen at them

@@ -10,7 +10,7 @@ use Rattle.reduced_strategies.proofs.ReducedStrategyLemmas.{CompletesList, reduc
 use Rattle.reduced_strategies.proofs.SetLemmas.{choice_at-first, choice_at-later}
 use Rattle.reduced_strategies.proofs.StrategyProfileLemmas.{strategies-of}
 use Rattle.enumpure_trees.specs.Orders.{completed_list, completed_of}
-use Rattle.enumpure_trees.specs.StrategyOrders.{AreTold}
+use Rattle.enumpure_trees.specs.StrategyOrders.{AreToldApart}
 
 -- what a completed list gives a set
 choice_at-completed : (sets choices : List ℕ) (s : ℕ) → choice_at sets (completed_list choices) s ≡ choice_at sets choices s - 1
@@ -28,8 +28,8 @@ CompletesList-completed t i choices completed e s h =
     omega (arith, ap (λ x. choice_at (own_sets t i) x s) e ∙ choice_at-completed (own_sets t i) choices s)
 
 -- a player's strategies differ also when they are completed
-pub AreTold-strategies : (t : Tree) (strategies : List (List (List ℕ))) (i : ℕ) → IsTree t → AreStrategies t strategies → i < t.players → AreTold (get_or strategies i [])
-AreTold-strategies t strategies i w a l =
+pub AreToldApart-strategies : (t : Tree) (strategies : List (List (List ℕ))) (i : ℕ) → IsTree t → AreStrategies t strategies → i < t.players → AreToldApart (get_or strategies i [])
+AreToldApart-strategies t strategies i w a l =
     let list = get_or strategies i [] in
     let are = strategies-of t strategies i a l in
     record {

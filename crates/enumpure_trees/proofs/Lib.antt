@@ -13,13 +13,13 @@ mod MutualReplyLemmas
 pub mod OneTextLaws
 pub mod OrderedLineLemmas
 pub mod OrderedProfileLemmas
+pub mod PassingAnswerLemmas
+pub mod PassingChoiceLemmas
+pub mod PassingLineLemmas
 mod RankSumLemmas
 mod RankedProfileLemmas
 mod SortedOrderLemmas
 mod SortedStrategyLemmas
-pub mod StabilityLemmas
-pub mod StableAnswerLemmas
-pub mod StableLineLemmas
 mod TextLemmas
 pub mod ValueCountLemmas
 pub mod ValueIndexLemmas

@@ -1,4 +1,4 @@
--- The profiles that are stable in a reduced form's table are the equilibria of the strategic form.
+-- The profiles that are passing in a reduced form's table are the equilibria of the strategic form.
 use Rattle.std.proofs.Common.{ℕ, ◌<◌, ◌≡◌, ◌↔◌, Bool, IsTrue, List, length, map, sym, subst, subst₂, arith}
 use Rattle.rational.specs.Rational.{ℚ, ◌≤ℚ◌}
 use Rattle.game_theory.specs.Profiles.{Game, profile_count, profile_at}
@@ -35,21 +35,21 @@ replies-same : (ns : List ℕ) (pays others : ℕ → ℕ → ℚ) (i k : ℕ) �
 replies-same ns pays others i k same l m best s b =
     subst₂ (λ x y. x ≤ℚ y) (same i (exchanged ns k i s) l (exchanged-below ns k i s (record { number = m; player = l }) b)) (same i k l m) (best s b)
 
--- and the same stable profiles
+-- and the same passing profiles
 all_best-same : (ns : List ℕ) (pays others : ℕ → ℕ → ℚ) (best_replies : List Bool) → PaysSame ns pays others → AreMutualBestReplies (game ns pays) best_replies → AreMutualBestReplies (game ns others) best_replies
 all_best-same ns pays others best_replies same h = record {
   of_each = h.of_each;
   all_best = λ k l. (λ f i b. replies-same ns pays others i k same b l ((h.all_best k l).0 f i b), λ g. (h.all_best k l).1 (λ i b. replies-same ns others pays i k (λ j m c d. sym (same j m c d)) b l (g i b)));
 }
 
--- stable profiles are the equilibria, by their numbers
+-- passing profiles are the equilibria, by their numbers
 all_best-equilibria : (g : Game) (best_replies : List Bool) (k : ℕ) → AreMutualBestReplies g best_replies → k < profile_count g.strategies → IsTrue (plays_best best_replies k) ↔ IsEquilibrium g (pure (profile_at g.strategies k))
 all_best-equilibria g best_replies k h l =
     let is = number_of-profile_at g.strategies k l in
     let p = IsProfile-profile_at g.strategies k l in
     (λ f. IsEquilibrium-plays_best g best_replies (profile_at g.strategies k) h p (subst (λ v. IsTrue (plays_best best_replies v)) (sym is) f), λ e. subst (λ v. IsTrue (plays_best best_replies v)) is (plays_best-equilibrium g best_replies (profile_at g.strategies k) h p e))
 
--- the best replies of the stable profiles of a reduced form's table tell the equilibria of the strategic form
+-- the best replies of the passing profiles of a reduced form's table tell the equilibria of the strategic form
 pub AreEquilibria-all_best : (t : GameTree) (form : ReducedForm) (best_replies : List Bool) → IsReducedForm t form → AreMutualBestReplies (game_of form.table) best_replies → AreEquilibria (game_of_tree t) form.choices (plays_best best_replies)
 AreEquilibria-all_best t form best_replies f h =
     let ns : List ℕ = map length form.choices in

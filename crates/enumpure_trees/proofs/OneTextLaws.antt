@@ -16,8 +16,8 @@ use Rattle.game_theory.specs.Trees.{Tree}
 use Rattle.game_theory.proofs.LineOrderLemmas.{AreInOrder-determined}
 use Rattle.rational.specs.Rational.{ℚ}
 use Rattle.enumpure_trees.specs.TestNodes.{AreTestNodes}
-use Rattle.enumpure_trees.specs.StableStops.{stable_text, values_in}
-use Rattle.enumpure_trees.specs.StableText.{AreStableLines, IsStableLine, IsStableText}
+use Rattle.enumpure_trees.specs.PassingStops.{passing_text, values_in}
+use Rattle.enumpure_trees.specs.PassingText.{ArePassingLines, IsPassingLine, IsPassingText}
 use Rattle.enumpure_trees.specs.Values.{ValueIndex, value_count, value_indices, value_steps}
 use Rattle.enumpure_trees.specs.declared.stop.ChoiceStop.{ChoiceStop}
 use Rattle.enumpure_trees.specs.declared.stop.ChoiceStop.TheVariants as stops
@@ -29,15 +29,15 @@ nodes-same perfect t one other p q =
     increasing_same one other p.ascending q.ascending (λ k c. (q.are_all k).1 ((p.are_all k).0 c)) (λ k c. (p.are_all k).1 ((q.are_all k).0 c))
 
 -- each line of one list stands in any other
-lines-within : (agents perfect : Bool) (t : Tree) (one other : List (List ℚ)) → AreStableLines agents perfect t one → AreStableLines agents perfect t other → (z : List ℚ) → Contains one z → Contains other z
+lines-within : (agents perfect : Bool) (t : Tree) (one other : List (List ℚ)) → ArePassingLines agents perfect t one → ArePassingLines agents perfect t other → (z : List ℚ) → Contains one z → Contains other z
 lines-within agents perfect t one other p q z c =
-    let line = All-contains (IsStableLine agents perfect t) one z p.sound c in
+    let line = All-contains (IsPassingLine agents perfect t) one z p.sound c in
     subst (Contains other) (sym line.is_line) (q.complete line.choice line.is_choice line.passes)
 
 -- the choices that pass have one text
-texts-same : (agents perfect : Bool) (t : Tree) (one other : List ℕ) → IsStableText agents perfect t one → IsStableText agents perfect t other → one ≡ other
+texts-same : (agents perfect : Bool) (t : Tree) (one other : List ℕ) → IsPassingText agents perfect t one → IsPassingText agents perfect t other → one ≡ other
 texts-same agents perfect t one other p q =
-    p.is_text ∙ ap lines_text (AreInOrder-determined p.lines q.lines p.are_stable.in_order q.are_stable.in_order (lines-within agents perfect t p.lines q.lines p.are_stable q.are_stable) (lines-within agents perfect t q.lines p.lines q.are_stable p.are_stable)) ∙ sym q.is_text
+    p.is_text ∙ ap lines_text (AreInOrder-determined p.lines q.lines p.are_passing.in_order q.are_passing.in_order (lines-within agents perfect t p.lines q.lines p.are_passing q.are_passing) (lines-within agents perfect t q.lines p.lines q.are_passing p.are_passing)) ∙ sym q.is_text
 
 -- the values have one answer
 values-single : (t : Tree) (nodes : List ℕ) → IsSingle (values_in t nodes)
@@ -53,12 +53,12 @@ values-single t nodes =
     fit : Answer (ValueIndex × Step) (Unit {0})
     fit = all_fit (value_steps t) (value_indices t nodes)
 
-pub stable_text-single : (agents perfect : Bool) (t : Tree) → IsSingle (stable_text agents perfect t)
-stable_text-single agents perfect t =
+pub passing_text-single : (agents perfect : Bool) (t : Tree) → IsSingle (passing_text agents perfect t)
+passing_text-single agents perfect t =
     bind-single (such_that (AreTestNodes perfect t)) _ (such_that-single (AreTestNodes perfect t) (nodes-same perfect t)) (λ nodes _.
     bind-single (values_in t nodes) _ (values-single t nodes) (λ _ _.
-    bind-single (such_that (IsStableText agents perfect t)) (λ text. refused_by stops.TooLarge (limited_text text)) (such_that-single (IsStableText agents perfect t) (texts-same agents perfect t)) (λ text _. refused_by-single stops.TooLarge (limited_text text) (limited_text-single text))))
+    bind-single (such_that (IsPassingText agents perfect t)) (λ text. refused_by stops.TooLarge (limited_text text)) (such_that-single (IsPassingText agents perfect t) (texts-same agents perfect t)) (λ text _. refused_by-single stops.TooLarge (limited_text text) (limited_text-single text))))
 
 -- what is said of the text that is answered
-pub stable_text-is : (agents perfect : Bool) (t : Tree) (text : List ℕ) → stable_text agents perfect t (Ok text) → IsStableText agents perfect t text
-stable_text-is agents perfect t text h = let found = h.2.2 in subst (IsStableText agents perfect t) (sym (text-same found.0 text found.2)) found.1
+pub passing_text-is : (agents perfect : Bool) (t : Tree) (text : List ℕ) → passing_text agents perfect t (Ok text) → IsPassingText agents perfect t text
+passing_text-is agents perfect t text h = let found = h.2.2 in subst (IsPassingText agents perfect t) (sym (text-same found.0 text found.2)) found.1

@@ -14,14 +14,14 @@ use Rattle.lists.specs.Orders.{ComesBefore}
 use Rattle.strategy_lists.proofs.AscendingOrderLemmas.{AllPairs-permutation, before_from_cmp}
 use Rattle.strategy_lists.proofs.EndListLemmas.{Differ}
 use Rattle.enumpure_trees.specs.Orders.{completed_list, completed_of}
-use Rattle.enumpure_trees.specs.StrategyOrders.{AreTold, first_numbered, IsSortedOrder}
+use Rattle.enumpure_trees.specs.StrategyOrders.{AreToldApart, first_numbered, IsSortedOrder}
 
 -- the list at a place, completed, is as long as all
 length-completed : (list : List ℕ) → length (completed_list list) ≡ length list
 length-completed list = length-map list (λ c. c - 1)
 
 -- Things with a number and a list each: first those of the strategies in order, and then sorted by completed lists.
-module _ {X : Type 0} (number : X → ℕ) (list : X → List ℕ) (strategies : List (List ℕ)) (first sorted : List X) (told : AreTold strategies) (are : map (λ x. (number x, list x)) first ≡ first_numbered strategies (length strategies)) (same : IsPermutation first sorted) (ascend : IsSorted (λ a b. slice_cmp nat_cmp (completed_list (list a)) (completed_list (list b))) sorted) where
+module _ {X : Type 0} (number : X → ℕ) (list : X → List ℕ) (strategies : List (List ℕ)) (first sorted : List X) (told : AreToldApart strategies) (are : map (λ x. (number x, list x)) first ≡ first_numbered strategies (length strategies)) (same : IsPermutation first sorted) (ascend : IsSorted (λ a b. slice_cmp nat_cmp (completed_list (list a)) (completed_list (list b))) sorted) where
   -- there are as many things as strategies
   length-first : length first ≡ length strategies
   length-first = sym (length-map first (λ x. (number x, list x))) ∙ ap length are ∙ length-map-range_with_len (λ d. (d, get_or strategies d [])) 0 (length strategies)

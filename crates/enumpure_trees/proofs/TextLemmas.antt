@@ -22,7 +22,7 @@ use Rattle.enumpure_trees.proofs.FormSizeLemmas.{form-counts}
 use Rattle.enumpure_trees.proofs.SortedOrderLemmas.{AreOrders-sorted, orders-counts, AllHaveNumbers-sorted}
 use Rattle.enumpure_trees.proofs.MutualReplyLemmas.{AreEquilibria-all_best}
 
--- orders of a tree's strategies, and best replies of the stable profiles of its reduced form
+-- orders of a tree's strategies, and best replies of the passing profiles of its reduced form
 pub record AreListed (t : GameTree) (form : ReducedForm) (orders : List (List ℕ)) (best_replies : List Bool) : Type 0 where
   pub is_tree : IsTree (game_of_tree t)
   pub is_form : IsReducedForm t form

@@ -4,7 +4,8 @@ use Rattle.game_core.specs.Table.{most_payoffs}
 use Rattle.game_theory.specs.Profiles.{profile_count}
 use Rattle.game_theory.specs.Trees.{Tree, IsTree}
 use Rattle.game_theory.proofs.ProfileCountLemmas.{profile_count-positive}
-use Rattle.enumpure_trees.specs.Choices.{action_counts, whole_choices}
+use Rattle.game_theory.specs.OwnSets.{action_counts}
+use Rattle.enumpure_trees.specs.Choices.{whole_choices}
 use Rattle.enumpure_trees.specs.Values.{value_count}
 use Rattle.enumpure_trees.proofs.WholeChoiceLemmas.{some_actions}
 use native.Mathlib.Nat as N

@@ -13,11 +13,11 @@ use Rattle.frac128.proofs.UnfitListLemmas.{first_of-map, first_of-part, parts_fi
 use Rattle.game_core.specs.Table.{most_payoffs}
 use Rattle.game_theory.specs.Behaviour.{pure, value}
 use Rattle.game_theory.specs.Trees.{Tree}
-use Rattle.pure_payoffs.specs.Stops.{all_values_in, node_players, node_values}
+use Rattle.pure_payoffs.specs.Stops.{all_values_fit, node_players, node_values}
 use Rattle.pure_payoffs.proofs.NodeListLemmas.{map-listed}
 use Rattle.rational.specs.Rational.{ℚ}
 use Rattle.enumpure_trees.specs.Choices.{numbered_choice, whole_choices}
-use Rattle.enumpure_trees.specs.StableStops.{values_in}
+use Rattle.enumpure_trees.specs.PassingStops.{values_in}
 use Rattle.enumpure_trees.specs.Told.{at_choice}
 use Rattle.enumpure_trees.specs.Values.{ValueIndex, indices_of, value_at, value_count, value_index, value_indices, value_steps}
 use Rattle.enumpure_trees.specs.declared.stop.ChoiceStop.{ChoiceStop}
@@ -71,13 +71,13 @@ module _ (t : Tree) (nodes : List ℕ) where
 
     module _ (fit : All (StepsFit (value_steps t)) (first_indices n)) where
       -- the steps of one choice more fit
-      pub choice_fits : all_values_in t (numbered_choice t n) nodes (Ok tt) → All (StepsFit (value_steps t)) (first_indices (n + 1))
+      pub choice_fits : all_values_fit t (numbered_choice t n) nodes (Ok tt) → All (StepsFit (value_steps t)) (first_indices (n + 1))
       choice_fits h =
           parts_fit (value_steps t) (indices_of t nodes) numbers n n at fit
           (subst (All (StepsFit (value_steps t))) (sym (indices-are t n nodes)) (All-map (StepsFit (value_steps t)) (indexed n) (node_players t nodes) h))
 
       -- or the first that does not is the first of all
-      pub choice_stops : (reason : ChoiceStop) → (most_payoffs < value_count t nodes → ⊥) → Gives stops.Memory (refused_by (at_choice n) (all_values_in t (numbered_choice t n) nodes)) (Err reason) → Gives stops.Memory (values_in t nodes) (Err reason)
+      pub choice_stops : (reason : ChoiceStop) → (most_payoffs < value_count t nodes → ⊥) → Gives stops.Memory (refused_by (at_choice n) (all_values_fit t (numbered_choice t n) nodes)) (Err reason) → Gives stops.Memory (values_in t nodes) (Err reason)
       choice_stops reason within (inl m) = inl m
       choice_stops reason within (inr (stop, (pair, first, told), is)) =
           let here = first_of-map (value_steps t) (indexed n) (node_players t nodes) pair.0 pair.1 first in

@@ -7,16 +7,16 @@ use Rattle.std.proofs.Math.Nat.{mul-le-mul_left}
 use Rattle.game_core.specs.Table.{most_payoffs}
 use Rattle.game_theory.specs.Lines.{entries}
 use Rattle.game_theory.specs.Mixed.{pure as pure_profile}
-use Rattle.game_theory.specs.OwnSets.{own_sets, player_sets}
+use Rattle.game_theory.specs.OwnSets.{action_counts, own_sets, player_sets}
 use Rattle.game_theory.specs.Profiles.{IsProfile, profile_count}
 use Rattle.game_theory.specs.Trees.{Tree, IsTree}
 use Rattle.game_theory.proofs.PlayerSetLemmas.{player_sets-apart, player_sets-has, player_sets-within, tree_entries-profile}
 use Rattle.game_theory.proofs.ProfileNumberLemmas.{length-profile}
 use Rattle.reduced_strategies.specs.Choices.{choice_at}
 use Rattle.reduced_strategies.proofs.ChoiceListLemmas.{choice_at-within, map-choice_at}
-use Rattle.enumpure_trees.specs.Choices.{action_counts, whole_choices}
-use Rattle.enumpure_trees.specs.Stability.{IsWholeChoice}
-use Rattle.enumpure_trees.specs.StableText.{choice_line}
+use Rattle.enumpure_trees.specs.Choices.{whole_choices}
+use Rattle.enumpure_trees.specs.PassingChoices.{IsWholeChoice}
+use Rattle.enumpure_trees.specs.PassingText.{choice_line}
 use Rattle.enumpure_trees.specs.Values.{value_count}
 
 -- each of the players' sets has an action

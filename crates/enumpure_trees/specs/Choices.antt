@@ -1,14 +1,10 @@
 -- The choices of one action at each player's set, and their numbers. Sets, actions and numbers count
 -- from 0.
-use Rattle.std.specs.Prelude.{ℕ, List, map}
-use Rattle.game_theory.specs.OwnSets.{player_sets}
+use Rattle.std.specs.Prelude.{ℕ}
+use Rattle.game_theory.specs.OwnSets.{action_counts, player_sets}
 use Rattle.game_theory.specs.Profiles.{profile_at, profile_count}
 use Rattle.game_theory.specs.Trees.{Tree}
 use Rattle.reduced_strategies.specs.Choices.{choice_at}
-
--- how many actions each of the players' sets has
-abbrev pub action_counts : Tree → List ℕ
-action_counts t = map t.actions (player_sets t)
 
 -- how many choices there are
 abbrev pub whole_choices : Tree → ℕ

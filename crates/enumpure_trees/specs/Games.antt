@@ -1,18 +1,17 @@
 -- The games that are played at a node: by agents, one for each player's set, or by the players.
 -- Those who choose, strategies and choices count from 0.
-use Rattle.std.specs.Prelude.{ℕ, ◌+◌, ◌<◌, ◌≡◌, ◌↔◌, Bool, true, false, IsTrue, List, All, length, map, slice_index}
+use Rattle.std.specs.Prelude.{ℕ, ◌+◌, ◌*◌, ◌<◌, ◌≡◌, ◌↔◌, Bool, true, false, IsTrue, List, All, length, map, slice_index, unwrap_or}
 use Rattle.std.specs.List.{range_with_len}
 use Rattle.enumpure.specs.Replies.{IsColumnOf, PlaysBestReply, plays_best}
 use Rattle.enumpure.specs.declared.replies.Column.{Column}
-use Rattle.game_core.specs.TreeGame.{or_zero}
-use Rattle.game_theory.specs.OwnSets.{own_counts, player_sets}
+use Rattle.game_theory.specs.OwnSets.{action_counts, own_counts, player_sets}
 use Rattle.game_theory.specs.Profiles.{Game, profile_count, stride}
 use Rattle.game_theory.specs.Trees.{Tree}
-use Rattle.enumpure_trees.specs.Choices.{action_counts}
+use Rattle.enumpure_trees.specs.declared.passing.Columns.{Columns}
 
 -- for each of those who choose the player whose values count: for an agent its set's owner
 abbrev pub choosers : (agents : Bool) → Tree → List ℕ
-choosers true t = map (λ s. or_zero (t.owner s)) (player_sets t)
+choosers true t = map (λ s. unwrap_or (t.owner s) 0) (player_sets t)
 choosers false t = range_with_len 0 t.players
 
 -- how many strategies a player has: one action at each own set
@@ -34,17 +33,34 @@ KeepsThose passes old new =
     (n : ℕ) → n < length old
     → IsTrue (plays_best new n) ↔ (IsTrue (plays_best old n) × passes n)
 
--- ---- columns one after another
--- the column that begins n numbers later
-abbrev pub later_column : Column → ℕ → Column
-later_column column n = record column { offset = column.offset + n }
+-- ---- the games at nodes, and the columns of their payoffs
+-- one who chooses plays a best reply in the game at each of so many nodes
+abbrev pub PlaysBestAtAll : (games : ℕ → Game) (nodes j n : ℕ) → Type 0
+PlaysBestAtAll games nodes j n = (p : ℕ) → p < nodes → PlaysBestReply (games p) j n
 
--- a column and those after it have what so many profiles of a game pay those who choose
-pub record AreColumnsOf (g : Game) (choosers strategies : List ℕ) (column : Column) (profiles : ℕ)
-    : Type 0 where
-  pub strategies_are : strategies ≡ g.strategies
+-- what the profiles pay player i at node p
+abbrev pub column_at : Columns → (p i : ℕ) → Column
+column_at columns p i = record {
+  numbers = columns.numbers;
+  offset = p * columns.players + i;
+  step = columns.nodes * columns.players;
+}
+
+-- a player's columns have what so many profiles of the games at the nodes pay one who chooses
+abbrev pub HasColumns : (games : ℕ → Game) (j : ℕ) → Columns
+    → (player profiles apart strategies : ℕ) → Type 0
+HasColumns games j columns player profiles apart strategies =
+    (p : ℕ) → p < columns.nodes
+    → IsColumnOf (games p) j (column_at columns p player) profiles apart strategies
+
+-- columns have what so many profiles of the games at the nodes pay those who choose
+pub record AreColumnsOf (games : ℕ → Game) (choosers strategies : List ℕ) (columns : Columns)
+    (profiles : ℕ) : Type 0 where
+  pub of_each : profiles ≡ profile_count strategies
   pub one_for_each : length choosers ≡ length strategies
   pub some_strategy : All (λ n. 0 < n) strategies
-  pub columns : (j : ℕ) → j < length choosers
-      → IsColumnOf g j (later_column column (slice_index choosers j)) profiles
+  pub players : All (λ i. i < columns.players) choosers
+  pub strategies_are : (p : ℕ) → p < columns.nodes → strategies ≡ (games p).strategies
+  pub has_columns : (j : ℕ) → j < length choosers
+      → HasColumns games j columns (slice_index choosers j) profiles
       (stride strategies j) (slice_index strategies j)

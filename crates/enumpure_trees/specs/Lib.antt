@@ -3,11 +3,11 @@ pub mod Games
 pub mod Laws
 pub mod Listing
 pub mod Orders
+pub mod PassingChoices
+pub mod PassingNumbers
+pub mod PassingStops
+pub mod PassingText
 pub mod Ranks
-pub mod Stability
-pub mod Stable
-pub mod StableStops
-pub mod StableText
 pub mod Stops
 pub mod StrategyOrders
 pub mod TestNodes

@@ -1,4 +1,4 @@
--- What the lines of a tree's pure equilibria are of.
+-- What the lines of a tree's pure equilibria are made from.
 use Rattle.std.specs.Prelude.{ℕ, ◌≡◌, Bool, List, length, map}
 use Rattle.game_theory.specs.Profiles.{profile_count}
 use Rattle.game_theory.specs.Lines.{lines_text}
@@ -22,7 +22,7 @@ abbrev pub listing : GameTree → ReducedForm → List (List ℕ) → List Bool 
 listing tree reduced orders all_best =
     record { tree = tree; reduced = reduced; orders = orders; all_best = all_best }
 
--- they belong together
+-- all parts are of one tree
 pub record IsListing (l : Listing) : Type 0 where
   pub form : IsReducedForm l.tree l.reduced
   pub orders : AreOrders l.reduced.choices l.orders

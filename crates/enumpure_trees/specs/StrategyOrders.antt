@@ -5,7 +5,7 @@ use Rattle.std.specs.List.Sorted.{IsPermutation}
 use Rattle.enumpure_trees.specs.Orders.{completed_of, IsOrder}
 
 -- Lists of one length, which differ also when they are completed.
-pub record AreTold (strategies : List (List ℕ)) : Type 0 where
+pub record AreToldApart (strategies : List (List ℕ)) : Type 0 where
   pub long : ℕ
   pub are_long : (d : ℕ) → d < length strategies → length (slice_index_or strategies d []) ≡ long
   pub tell : (d e : ℕ) → d < length strategies → e < length strategies

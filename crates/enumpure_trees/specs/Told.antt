@@ -7,7 +7,7 @@ use Rattle.pure_payoffs.specs.declared.stop.ValueStop.TheVariants as value_stops
 use Rattle.enumpure_trees.specs.declared.stop.ChoiceStop.{ChoiceStop}
 use Rattle.enumpure_trees.specs.declared.stop.ChoiceStop.TheVariants as stops
 
--- the lines are not listed
+-- why there is no text, by why lines are not listed
 abbrev pub text_stop : ListStop → ChoiceStop
 text_stop (list.TooLarge limit) = stops.TooLarge limit
 text_stop list.Memory = stops.Memory

@@ -14,6 +14,7 @@ pub record ValueIndex : Type 0 where
   pub node : ℕ
   pub player : ℕ
 
+-- the index of these numbers
 abbrev pub value_index : ℕ → ℕ → ℕ → ValueIndex
 value_index choice node player = record { choice = choice; node = node; player = player }
 

@@ -1,8 +1,7 @@
 // The players' sets, and how many actions they have.
 ghost use Rattle.std.specs.Prelude.{◌≡◌, ◌++◌, IfOk, OnOk};
 ghost use Rattle.game_core.specs.TreeGame.{game_of_tree};
-ghost use Rattle.game_theory.specs.OwnSets.{own_sets, player_sets};
-ghost use Rattle.enumpure_trees.specs.Choices.{action_counts};
+ghost use Rattle.game_theory.specs.OwnSets.{action_counts, own_sets, player_sets};
 
 use frac128::Memory;
 use game_core::Tree;

@@ -3,16 +3,16 @@
 //! at the root or at each node where a subgame begins.
 //!
 //! Callers may rely on: `list_pure_behaviours` gives the text, refused exactly where it is too
-//! long; `one_text_of_equilibria`; two profiles never have the same line. `list_stable_choices` gives
-//! the text of the choices that pass, or the first reason in the order of `specs::StableStops` why
-//! there is none; `stable_texts_are_single`.
+//! long; `one_text_of_equilibria`; two profiles never have the same line. `list_passing_choices` gives
+//! the text of the choices that pass, or the first reason in the order of `specs::PassingStops` why
+//! there is none; `passing_texts_are_single`.
 //! Definitions: `specs::TreeEquilibria` says which lines there are and in which order, `Stops` what
-//! a tree answers. `TestNodes` says at which nodes choices are tested, `Stability` which choices pass,
-//! `StableText` what their lines are, `Values` which values are computed and in which steps, `Choices`
-//! how choices are numbered, `StableStops` what a tree answers then.
+//! a tree answers. `TestNodes` says at which nodes choices are tested, `PassingChoices` which choices pass,
+//! `PassingText` what their lines are, `Values` which values are computed and in which steps, `Choices`
+//! how choices are numbered, `PassingStops` what a tree answers then.
 //! Private words: `specs::Orders`, `Ranks`, `StrategyOrders` and `Listing`, how the code sorts and
-//! lists; `Games`, the games at a node, `Stable`, the choices that are equilibria by their numbers, and
-//! `Told`, how the reasons of other crates are told.
+//! lists; `Games`, the games at nodes and the columns of their payoffs, `PassingNumbers`, the choices that
+//! are equilibria by their numbers, and `Told`, how the reasons of other crates are told.
 //! Lemmas for callers: `proofs::EquilibriumLineLemmas`, that a tree has one list of lines;
 //! `FormSizeLemmas`; `OneTextLaws` on the choices that pass.
 //! A change here touches: `refusals`, `gambit_tools`, and what `enumpure` prints of a tree without `-S`.
@@ -23,14 +23,14 @@ ghost use Rattle.enumpure_trees.specs.Laws.{LinesDetermineProfiles, OneTextOfEqu
 mod choices;
 mod listing;
 mod orders;
-mod stable;
-mod stable_listing;
+mod passing;
+mod passing_listing;
 mod stop;
 mod test_nodes;
 mod values;
 
 pub use listing::{behaviour_texts_are_single, list_pure_behaviours};
-pub use stable_listing::{list_stable_choices, stable_texts_are_single};
+pub use passing_listing::{list_passing_choices, passing_texts_are_single};
 pub use stop::ChoiceStop;
 
 /// Two profiles never have the same line.

@@ -5,7 +5,7 @@ ghost use Rattle.std.specs.List.Sorted.{IsPermutation, IsSorted};
 ghost use Rattle.std.specs.Ordering.{nat_cmp};
 ghost use Rattle.reduced_form.specs.ReducedForm.{IsReducedForm};
 ghost use Rattle.enumpure_trees.specs.Orders.{completed_list};
-ghost use Rattle.enumpure_trees.specs.StrategyOrders.{AreTold, first_numbered, IsSortedOrder, AreSortedOrders};
+ghost use Rattle.enumpure_trees.specs.StrategyOrders.{AreToldApart, first_numbered, IsSortedOrder, AreSortedOrders};
 
 use frac128::Memory;
 use game_core::{Tree, trees_are_game_trees};
@@ -48,7 +48,7 @@ fn sort_completed(numbered: &mut Vec<(u32, &[u32])>) -> Result<(), Memory>
 // The numbers of a player's strategies in the order of their completed lists.
 fn order_of(alloc: Global, strategies: &[Vec<u32>]) -> Result<Vec<u32>, Memory>
     requires few { length strategies.now < 2 ^ 32 }
-    requires told { AreTold (map (λ v. v.items) strategies.now) }
+    requires told { AreToldApart (map (λ v. v.items) strategies.now) }
     ensures { IfOk result (λ order. IsSortedOrder (map (λ v. v.items) strategies.now) order.items) }
 {
     let mut sorted = numbered(alloc, strategies)?;

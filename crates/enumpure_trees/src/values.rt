@@ -10,11 +10,11 @@ ghost use Rattle.game_theory.specs.Children.{AreChildren};
 ghost use Rattle.game_theory.specs.Profiles.{profile_count};
 ghost use Rattle.pure_payoffs.specs.Choices.{AreChoices};
 ghost use Rattle.pure_payoffs.specs.Plays.{choice_of, game_of};
-ghost use Rattle.pure_payoffs.specs.Stops.{all_values_in, node_values};
+ghost use Rattle.pure_payoffs.specs.Stops.{all_values_fit, node_values};
 ghost use Rattle.reduced_strategies.specs.Choices.{choice_at};
-ghost use Rattle.game_theory.specs.OwnSets.{player_sets};
-ghost use Rattle.enumpure_trees.specs.Choices.{action_counts, whole_choices};
-ghost use Rattle.enumpure_trees.specs.StableStops.{values_in};
+ghost use Rattle.game_theory.specs.OwnSets.{action_counts, player_sets};
+ghost use Rattle.enumpure_trees.specs.Choices.{whole_choices};
+ghost use Rattle.enumpure_trees.specs.PassingStops.{values_in};
 ghost use Rattle.enumpure_trees.specs.Told.{at_choice};
 ghost use Rattle.enumpure_trees.specs.Values.{choice_values, value_count};
 ghost use Rattle.enumpure_trees.specs.declared.stop.ChoiceStop.TheVariants as stops;
@@ -130,7 +130,7 @@ fn push_choice(
     ensures values { OnOk result (values.new.items
         ≡ values.old.items ++ node_values (game_of play.now) (choice_of play.now) nodes.now) }
     ensures stop { Gives stops.Memory (refused_by (at_choice choice)
-        (all_values_in (game_of play.now) (choice_of play.now) nodes.now)) result }
+        (all_values_fit (game_of play.now) (choice_of play.now) nodes.now)) result }
 {
     match play.push_all_values(shortcuts, nodes, values) {
         Ok(()) => Ok(()),

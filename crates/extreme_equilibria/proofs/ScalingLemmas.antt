@@ -1,7 +1,7 @@
 -- Completely labelled pairs of nonzero points are the equilibria, divided by their payoffs
 use Rattle.std.proofs.Common.{ℕ, ◌<◌, ◌≡◌, ◌≢◌, inl, inr, [], ◌∷◌, refl, sym, ap, ap₂, ◌∙◌, subst, subst₂}
 use Rattle.rational.specs.Rational.{ℚ, ◌*ℚ◌, inv_ℚ, zero_ℚ, one_ℚ, ◌≤ℚ◌, ◌<ℚ◌}
-use Rattle.rational.specs.Sum.{sum_to}
+use Rattle.rational.specs.Sum.{sum_to, IsDistribution}
 use Rattle.rational.proofs.RationalRing.{rational_ring, *ℚ_comm}
 use Rattle.rational.proofs.Ring.{ring, combine, ◌times◌is◌, num, ◌:*◌, A, B, C}
 use Rattle.rational.proofs.Field.{nonneg-mul, le-mul_right, *ℚ-inv}
@@ -10,7 +10,7 @@ use Rattle.rational.proofs.SumLemmas.{sum_to-scale_right, sum_to-same}
 use Rattle.rational.proofs.MeanLemmas.{support}
 use Rattle.linear_systems.specs.Points.{IsNonzero}
 use Rattle.extreme_equilibria.specs.ExtremeEquilibria.{AreSame}
-use Rattle.extreme_equilibria.specs.Bimatrix.{gain, mean_gain, IsMixedStrategy, IsBestReply, IsBimatrixEquilibrium, IsPositive}
+use Rattle.extreme_equilibria.specs.Bimatrix.{gain, mean_gain, IsBestReply, IsBimatrixEquilibrium, IsPositive}
 use Rattle.extreme_equilibria.specs.Polytopes.{IsInPolytope, IsLabelledPair, scaled}
 use Rattle.extreme_equilibria.proofs.LabelLemmas.{IsLabelled}
 use Rattle.rational.proofs.Field.{le_of_lt}
@@ -22,7 +22,7 @@ use Rattle.extreme_equilibria.proofs.LabelLemmas.{labels_out, labels_in}
 pub gain-times : (n : ℕ) (a : ℕ → ℕ → ℚ) (y : ℕ → ℚ) (t : ℚ) (i : ℕ) → gain n a (λ j. y j *ℚ t) i ≡ gain n a y i *ℚ t
 gain-times n a y t i = sum_to-same n _ (λ j. (a i j *ℚ y j) *ℚ t) (λ j h. ring rational_ring (a i j ∷ y j ∷ t ∷ []) (A :* (B :* C)) (A :* B :* C) refl) ∙ sum_to-scale_right n t (λ j. a i j *ℚ y j)
 
-pub scaled_mix : (n : ℕ) (p : ℕ → ℚ) → ((i : ℕ) → i < n → zero_ℚ ≤ℚ p i) → zero_ℚ <ℚ sum_to n p → IsMixedStrategy n (scaled n p)
+pub scaled_mix : (n : ℕ) (p : ℕ → ℚ) → ((i : ℕ) → i < n → zero_ℚ ≤ℚ p i) → zero_ℚ <ℚ sum_to n p → IsDistribution n (scaled n p)
 scaled_mix n p h g =
     record {
       not_negative = λ i b. nonneg-mul (p i) (inv_ℚ (sum_to n p)) (h i b) (le_of_lt zero_ℚ _ (inv_pos (sum_to n p) g));
@@ -75,24 +75,24 @@ equilibrium_of {m} {n} {a} {c} {p} {q} r =
     record { first_mixed = scaled_mix m p r.p_in.not_negative r.p_sum; second_mixed = scaled_mix n q r.q_in.not_negative r.q_sum; first_best = best_reply r; second_best = best_reply (swapped r) }
 
 -- ---- back
-nonzero_mix : (n : ℕ) (x : ℕ → ℚ) → IsMixedStrategy n x → IsNonzero n x
+nonzero_mix : (n : ℕ) (x : ℕ → ℚ) → IsDistribution n x → IsNonzero n x
 nonzero_mix n x h = nonzero_of_sum n x (λ e. ne_zero_of_pos one_ℚ zero_lt_one (sym h.sum_is_one ∙ e))
 
-pub gain-pos : (m n : ℕ) (a : ℕ → ℕ → ℚ) (y : ℕ → ℚ) (i : ℕ) → IsPositive m n a → IsMixedStrategy n y → i < m → zero_ℚ <ℚ gain n a y i
+pub gain-pos : (m n : ℕ) (a : ℕ → ℕ → ℚ) (y : ℕ → ℚ) (i : ℕ) → IsPositive m n a → IsDistribution n y → i < m → zero_ℚ <ℚ gain n a y i
 gain-pos m n a y i h g b =
     subst (λ s. zero_ℚ <ℚ s) (sum_to-same n _ _ (λ j k. *ℚ_comm (y j) (a i j))) (mean-pos n y (a i) g.not_negative (λ j k. h i j b k) (nonzero_mix n y g))
 
-pub payoff-pos : (m n : ℕ) (a : ℕ → ℕ → ℚ) (x y : ℕ → ℚ) → IsPositive m n a → IsMixedStrategy m x → IsMixedStrategy n y → zero_ℚ <ℚ mean_gain m n a x y
+pub payoff-pos : (m n : ℕ) (a : ℕ → ℕ → ℚ) (x y : ℕ → ℚ) → IsPositive m n a → IsDistribution m x → IsDistribution n y → zero_ℚ <ℚ mean_gain m n a x y
 payoff-pos m n a x y h k g = mean-pos m x (gain n a y) k.not_negative (λ i b. gain-pos m n a y i h g b) (nonzero_mix m x k)
 
-pub inside : (m n : ℕ) (c : ℕ → ℕ → ℚ) (x : ℕ → ℚ) (v : ℚ) → zero_ℚ <ℚ v → IsMixedStrategy m x → ((j : ℕ) → j < n → gain m c x j ≤ℚ v) → IsInPolytope m n c (λ i. x i *ℚ inv_ℚ v)
+pub inside : (m n : ℕ) (c : ℕ → ℕ → ℚ) (x : ℕ → ℚ) (v : ℚ) → zero_ℚ <ℚ v → IsDistribution m x → ((j : ℕ) → j < n → gain m c x j ≤ℚ v) → IsInPolytope m n c (λ i. x i *ℚ inv_ℚ v)
 inside m n c x v h k g =
     record {
       not_negative = λ i b. nonneg-mul (x i) (inv_ℚ v) (k.not_negative i b) (le_of_lt zero_ℚ _ (inv_pos v h));
       rows = λ j b. subst₂ (λ s t. s ≤ℚ t) (sym (gain-times m c x (inv_ℚ v) j)) (*ℚ-inv v (ne_zero_of_pos v h)) (le-mul_right (inv_ℚ v) (gain m c x j) v (le_of_lt zero_ℚ (inv_ℚ v) (inv_pos v h)) (g j b));
     }
 
-label_of : (m n : ℕ) (a : ℕ → ℕ → ℚ) (x y : ℕ → ℚ) (w : ℚ) → zero_ℚ <ℚ mean_gain m n a x y → IsMixedStrategy m x → IsBestReply m n a x y → IsLabelled m n a (λ i. x i *ℚ w) (λ j. y j *ℚ inv_ℚ (mean_gain m n a x y))
+label_of : (m n : ℕ) (a : ℕ → ℕ → ℚ) (x y : ℕ → ℚ) (w : ℚ) → zero_ℚ <ℚ mean_gain m n a x y → IsDistribution m x → IsBestReply m n a x y → IsLabelled m n a (λ i. x i *ℚ w) (λ j. y j *ℚ inv_ℚ (mean_gain m n a x y))
 label_of m n a x y w h k best i b =
     let u : ℚ = mean_gain m n a x y in
     elim ((support m x (gain n a y) u k.not_negative k.sum_is_one best).0 refl i b) [
@@ -100,7 +100,7 @@ label_of m n a x y w h k best i b =
       | inr e ↦ inr (gain-times n a y (inv_ℚ u) i ∙ ap (λ g. g *ℚ inv_ℚ u) e ∙ *ℚ-inv u (ne_zero_of_pos u h))
     ]
 
-divided_sum : (n : ℕ) (x : ℕ → ℚ) (v : ℚ) → zero_ℚ <ℚ v → IsMixedStrategy n x → zero_ℚ <ℚ sum_to n (λ i. x i *ℚ inv_ℚ v)
+divided_sum : (n : ℕ) (x : ℕ → ℚ) (v : ℚ) → zero_ℚ <ℚ v → IsDistribution n x → zero_ℚ <ℚ sum_to n (λ i. x i *ℚ inv_ℚ v)
 divided_sum n x v h k = subst (λ s. zero_ℚ <ℚ s) (sym (sum_to-scale_right n (inv_ℚ v) x ∙ one_times (sum_to n x) (inv_ℚ v) k.sum_is_one)) (inv_pos v h)
 
 -- an equilibrium, divided by the other player's payoff, is a completely labelled pair

@@ -7,7 +7,7 @@ use Rattle.rational.proofs.RationalRing.{rational_ring}
 use Rattle.rational.proofs.Ring.{ring, num, ◌:+◌, ◌:*◌, A, B, C}
 use Rattle.rational.proofs.Linear.{linear, at, lit, ◌⟨+⟩◌, ◌⟨-⟩◌, ◌⟨≤⟩◌, ◌⟨<⟩◌}
 use Rattle.rational.proofs.SumLemmas.{sum_to-same, sum_to-add, sum_to-scale}
-use Rattle.extreme_equilibria.specs.Bimatrix.{gain, mean_gain, IsBestReply, IsBimatrixEquilibrium, IsExtremeBimatrixEquilibrium, IsPositive, shifted, IsBelowAll, shift_of}
+use Rattle.extreme_equilibria.specs.Bimatrix.{gain, mean_gain, IsBestReply, IsBimatrixEquilibrium, IsExtremeBimatrixEquilibrium, IsPositive, shifted, IsLowerBound, shift_of}
 
 gain-shifted : (n : ℕ) (d : ℚ) (a : ℕ → ℕ → ℚ) (y : ℕ → ℚ) (i : ℕ) → sum_to n y ≡ one_ℚ → gain n (shifted d a) y i ≡ gain n a y i +ℚ d
 gain-shifted n d a y i e =
@@ -46,6 +46,6 @@ shift_extreme m n a c d e x y = (to, from)
     from s = record { equilibrium = shift_out d e s.equilibrium; first_alone = λ p q k l. s.first_alone p q (shift_in d e k) (shift_in d e l); second_alone = λ p q k l. s.second_alone p q (shift_in d e k) (shift_in d e l) }
 
 -- with 1 - least each payoff is positive
-pub lifted_positive : (m n : ℕ) (a : ℕ → ℕ → ℚ) (least : ℚ) → IsBelowAll m n a least → IsPositive m n (shifted (shift_of least) a)
+pub lifted_positive : (m n : ℕ) (a : ℕ → ℕ → ℚ) (least : ℚ) → IsLowerBound m n a least → IsPositive m n (shifted (shift_of least) a)
 lifted_positive m n a least h i j b k =
     linear (a i j ∷ least ∷ []) ((at 1 ⟨≤⟩ at 0) ∷ []) (lit (pos 0) ⟨<⟩ (at 0 ⟨+⟩ (lit (pos 1) ⟨-⟩ at 1))) (λ one z u v. omega (arith, ints)) (h i j b k, tt)

@@ -3,7 +3,7 @@
 -- 2002.
 use Rattle.std.specs.Prelude.{ℕ, ◌<◌}
 use Rattle.rational.specs.Rational.{ℚ, ◌+ℚ◌, ◌*ℚ◌, ◌-ℚ◌, ◌≤ℚ◌, ◌<ℚ◌, zero_ℚ, one_ℚ}
-use Rattle.rational.specs.Sum.{sum_to, IsWeights}
+use Rattle.rational.specs.Sum.{sum_to, IsDistribution}
 use Rattle.extreme_equilibria.specs.ExtremeEquilibria.{AreSame, IsMidpoint}
 
 -- what strategy i gains against the other player's probabilities y of n strategies
@@ -14,18 +14,14 @@ gain n a y i = sum_to n (λ j. a i j *ℚ y j)
 abbrev pub mean_gain : ℕ → ℕ → (ℕ → ℕ → ℚ) → (ℕ → ℚ) → (ℕ → ℚ) → ℚ
 mean_gain m n a x y = sum_to m (λ i. x i *ℚ gain n a y i)
 
--- probabilities of n strategies
-abbrev pub IsMixedStrategy : ℕ → (ℕ → ℚ) → Type 0
-IsMixedStrategy = IsWeights
-
 -- no strategy gains more than x does against y
 abbrev pub IsBestReply : ℕ → ℕ → (ℕ → ℕ → ℚ) → (ℕ → ℚ) → (ℕ → ℚ) → Type 0
 IsBestReply m n a x y = (i : ℕ) → i < m → gain n a y i ≤ℚ mean_gain m n a x y
 
 -- an equilibrium, where a i j is what the first player gets and c j i what the second gets
 pub record IsBimatrixEquilibrium (m n : ℕ) (a c : ℕ → ℕ → ℚ) (x y : ℕ → ℚ) : Type 0 where
-  pub first_mixed : IsMixedStrategy m x
-  pub second_mixed : IsMixedStrategy n y
+  pub first_mixed : IsDistribution m x
+  pub second_mixed : IsDistribution n y
   pub first_best : IsBestReply m n a x y
   pub second_best : IsBestReply n m c y x
 
@@ -48,9 +44,9 @@ IsPositive m n a = (i j : ℕ) → i < m → j < n → zero_ℚ <ℚ a i j
 abbrev pub shifted : ℚ → (ℕ → ℕ → ℚ) → ℕ → ℕ → ℚ
 shifted d a i j = a i j +ℚ d
 
--- no payoff is below this number
-abbrev pub IsBelowAll : ℕ → ℕ → (ℕ → ℕ → ℚ) → ℚ → Type 0
-IsBelowAll m n a least = (i j : ℕ) → i < m → j < n → least ≤ℚ a i j
+-- this number is at most each payoff
+abbrev pub IsLowerBound : ℕ → ℕ → (ℕ → ℕ → ℚ) → ℚ → Type 0
+IsLowerBound m n a least = (i j : ℕ) → i < m → j < n → least ≤ℚ a i j
 
 -- what is added to payoffs that are at least `least` so that all are positive
 abbrev pub shift_of : ℚ → ℚ

@@ -10,12 +10,12 @@ use Rattle.linear_systems.specs.Points.{IsFeasible, IsNonzero}
 use Rattle.linear_systems.specs.Vertices.{MarkedPoint, IsMarkOf, AreVertices}
 use Rattle.extreme_equilibria.specs.ExtremeEquilibria.{AreSame, IsExtremeEquilibrium, AreExtremeEquilibria}
 use Rattle.extreme_equilibria.specs.TwoPlayers.{pays_against}
-use Rattle.extreme_equilibria.specs.Bimatrix.{mean_gain, IsBimatrixEquilibrium, IsExtremeBimatrixEquilibrium, IsPositive, shifted, IsBelowAll, shift_of}
+use Rattle.extreme_equilibria.specs.Bimatrix.{mean_gain, IsBimatrixEquilibrium, IsExtremeBimatrixEquilibrium, IsPositive, shifted, IsLowerBound, shift_of}
 use Rattle.extreme_equilibria.specs.Polytopes.{IsInPolytope, IsVertex, IsCompletelyLabelled, IsLabelledPair, IsScaledPair, scaled}
 use Rattle.extreme_equilibria.specs.Systems.{first_system, second_system}
 use Rattle.extreme_equilibria.specs.PairLines.{scaled_point, HaveAllLabels, ArePairLines}
 
--- a game has one list of extreme equilibria
+-- a game has at most one list of extreme equilibria
 abbrev pub OneListOfExtremeEquilibria : Type 0
 OneListOfExtremeEquilibria =
     (g : Game) (a b : List (List ℚ)) → AreExtremeEquilibria g a → AreExtremeEquilibria g b → a ≡ b
@@ -49,7 +49,7 @@ ShiftsKeepEquilibria =
 -- 1 less the least payoff makes all payoffs positive
 abbrev pub ShiftedPayoffsArePositive : Type 0
 ShiftedPayoffsArePositive =
-    (m n : ℕ) (a : ℕ → ℕ → ℚ) (least : ℚ) → IsBelowAll m n a least
+    (m n : ℕ) (a : ℕ → ℕ → ℚ) (least : ℚ) → IsLowerBound m n a least
     → IsPositive m n (shifted (shift_of least) a)
 
 -- a completely labelled pair of nonzero points, scaled, is an equilibrium
@@ -134,7 +134,7 @@ abbrev pub PairLinesAreExtremeEquilibria : Type 0
 PairLinesAreExtremeEquilibria =
     (g : Game) (m n : ℕ) (least least' : ℚ) (first second : List MarkedPoint)
     (lines : List (List ℚ)) → g.strategies ≡ m ∷ n ∷ []
-    → IsBelowAll m n (pays_against g 0) least → IsBelowAll n m (pays_against g 1) least'
+    → IsLowerBound m n (pays_against g 0) least → IsLowerBound n m (pays_against g 1) least'
     → AreVertices (m + n) (first_system m n (shifted (shift_of least') (pays_against g 1))) first
     → AreVertices (m + n) (second_system m n (shifted (shift_of least) (pays_against g 0))) second
     → ArePairLines (m + n) first second lines → AreExtremeEquilibria g lines

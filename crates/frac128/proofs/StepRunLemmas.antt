@@ -3,7 +3,7 @@ use Rattle.std.proofs.Common.{◌≡◌, ◌↔◌, List, [], ◌∷◌, ◌++�
 use Rattle.std.specs.Prelude.{IfOk, IfErr, OnOk, OnErr}
 use Rattle.std.proofs.lemmas.List.Elements.{All-nil, All-cons, All-head, All-tail, All-append}
 use Rattle.rational.specs.Rational.{ℚ, ◌+ℚ◌, ◌-ℚ◌, ◌*ℚ◌}
-use Rattle.frac128.specs.Steps.{AddFits, SubFits, MulFits, unfit, Step, StepFits, IsFirstUnfit, StepsGive}
+use Rattle.frac128.specs.Steps.{AddFits, SubFits, MulFits, step_of, Step, StepFits, IsFirstUnfit, StepsGive}
 use Rattle.frac128.specs.declared.steps.Op.TheVariants.{Add, Sub, Mul}
 use Rattle.frac128.specs.declared.steps.Unfit.{Unfit}
 
@@ -51,19 +51,19 @@ pub unfit-more : (steps : List Step) (step u : Step) → All StepFits steps → 
 unfit-more steps step u h refused is = first_unfit-following steps (step ∷ []) u h (first_unfit-same step [] u refused is)
 
 -- what an addition gives
-pub added-gives : (a b : ℚ) (r : Result ℚ Unfit) → IfOk r (λ f. f ≡ a +ℚ b) → OnOk r (AddFits a b) → IfErr r (λ e. e ≡ unfit Add a b) → OnErr r (AddFits a b → ⊥) → StepsGive (unfit Add a b ∷ []) (a +ℚ b) r
-added-gives a b (Ok v) value fits step refused = (value, one-fits (unfit Add a b) fits)
-added-gives a b (Err u) value fits step refused = first_unfit-same (unfit Add a b) [] u refused step
+pub added-gives : (a b : ℚ) (r : Result ℚ Unfit) → IfOk r (λ f. f ≡ a +ℚ b) → OnOk r (AddFits a b) → IfErr r (λ e. e ≡ step_of Add a b) → OnErr r (AddFits a b → ⊥) → StepsGive (step_of Add a b ∷ []) (a +ℚ b) r
+added-gives a b (Ok v) value fits step refused = (value, one-fits (step_of Add a b) fits)
+added-gives a b (Err u) value fits step refused = first_unfit-same (step_of Add a b) [] u refused step
 
 -- what a difference gives
-pub subtracted-gives : (a b : ℚ) (r : Result ℚ Unfit) → IfOk r (λ f. f ≡ a -ℚ b) → OnOk r (SubFits a b) → IfErr r (λ e. e ≡ unfit Sub a b) → OnErr r (SubFits a b → ⊥) → StepsGive (unfit Sub a b ∷ []) (a -ℚ b) r
-subtracted-gives a b (Ok v) value fits step refused = (value, one-fits (unfit Sub a b) fits)
-subtracted-gives a b (Err u) value fits step refused = first_unfit-same (unfit Sub a b) [] u refused step
+pub subtracted-gives : (a b : ℚ) (r : Result ℚ Unfit) → IfOk r (λ f. f ≡ a -ℚ b) → OnOk r (SubFits a b) → IfErr r (λ e. e ≡ step_of Sub a b) → OnErr r (SubFits a b → ⊥) → StepsGive (step_of Sub a b ∷ []) (a -ℚ b) r
+subtracted-gives a b (Ok v) value fits step refused = (value, one-fits (step_of Sub a b) fits)
+subtracted-gives a b (Err u) value fits step refused = first_unfit-same (step_of Sub a b) [] u refused step
 
 -- what a product gives
-pub product-gives : (a b : ℚ) (r : Result ℚ Unfit) → IfOk r (λ f. f ≡ a *ℚ b) → OnOk r (MulFits a b) → IfErr r (λ e. e ≡ unfit Mul a b) → OnErr r (MulFits a b → ⊥) → StepsGive (unfit Mul a b ∷ []) (a *ℚ b) r
-product-gives a b (Ok v) value fits step refused = (value, one-fits (unfit Mul a b) fits)
-product-gives a b (Err u) value fits step refused = first_unfit-same (unfit Mul a b) [] u refused step
+pub product-gives : (a b : ℚ) (r : Result ℚ Unfit) → IfOk r (λ f. f ≡ a *ℚ b) → OnOk r (MulFits a b) → IfErr r (λ e. e ≡ step_of Mul a b) → OnErr r (MulFits a b → ⊥) → StepsGive (step_of Mul a b ∷ []) (a *ℚ b) r
+product-gives a b (Ok v) value fits step refused = (value, one-fits (step_of Mul a b) fits)
+product-gives a b (Err u) value fits step refused = first_unfit-same (step_of Mul a b) [] u refused step
 
 -- steps that fit change nothing in what those after them give
 pub following-gives : (steps rest : List Step) (v : ℚ) (r : Result ℚ Unfit) → All StepFits steps → StepsGive rest v r → StepsGive (steps ++ rest) v r

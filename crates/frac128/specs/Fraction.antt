@@ -7,6 +7,7 @@ use Rattle.rational.specs.Gcd.{gcd}
 use Rattle.rational.specs.Rational.{ℚ, frac}
 use Rattle.frac128.specs.declared.frac.Frac.TheInside.{Inside}
 
+-- the rational for which a fraction's fields stand
 abbrev pub value_of : Inside → ℚ
 value_of a = frac a.num (nat_abs a.den)
 
@@ -19,6 +20,7 @@ pub record Fits (q : ℚ) : Type 0 where
   pub num : PartFits q.num
   pub den : PartFits (pos q.den)
 
+-- a positive denominator, no common divisor but 1, and both parts fit
 pub record InLowestTerms (a : Inside) : Type 0 where
   pub den_pos : pos 0 <ℤ a.den
   pub lowest : gcd (nat_abs a.num) (nat_abs a.den) ≡ 1

@@ -35,13 +35,13 @@ MulFits a b = Fits (a *ℚ b)
 abbrev pub DivFits : ℚ → ℚ → Type 0
 DivFits a b = Fits (a *ℚ inv_ℚ b)
 
--- the step that does not fit
-abbrev pub unfit : Op → ℚ → ℚ → Unfit
-unfit op a b = record { op = op; left = a; right = b }
-
 -- a step: an operation on two numbers
 abbrev pub Step : Type 0
 Step = Unfit
+
+-- the step of this operation on these numbers, whether it fits or not
+abbrev pub step_of : Op → ℚ → ℚ → Step
+step_of op a b = record { op = op; left = a; right = b }
 
 -- such an operation on two numbers fits
 abbrev pub OperationFits : Op → ℚ → ℚ → Type 0

@@ -1,6 +1,6 @@
 // The four operations. Each gives the exact value, or the step itself where it does not fit.
 ghost use Rattle.std.specs.Prelude.{◌≡◌, ◌≢◌, IfOk, IfErr, OnOk, OnErr};
-ghost use Rattle.frac128.specs.Steps.{AddFits, SubFits, MulFits, DivFits, unfit};
+ghost use Rattle.frac128.specs.Steps.{AddFits, SubFits, MulFits, DivFits, step_of};
 ghost use Rattle.rational.specs.Rational.{zero_ℚ, inv_ℚ, ◌+ℚ◌, ◌-ℚ◌, ◌*ℚ◌};
 
 use crate::Frac;
@@ -24,7 +24,7 @@ pub struct Unfit {
 
 impl Unfit {
     fn of(op: Op, left: Frac, right: Frac) -> Unfit
-        ensures { result ≡ unfit op left right }
+        ensures { result ≡ step_of op left right }
     {
         Unfit { op, left, right }
     }
@@ -41,7 +41,7 @@ impl Frac {
     pub fn add(self, other: Frac) -> Result<Frac, Unfit>
         ensures value { IfOk result (λ f. f ≡ self +ℚ other) }
         ensures fits { OnOk result (AddFits self other) }
-        ensures step { IfErr result (λ e. e ≡ unfit Op.Add self other) }
+        ensures step { IfErr result (λ e. e ≡ step_of Op.Add self other) }
         ensures unfit { OnErr result (¬ (AddFits self other)) }
     {
         self.sum(other).ok_or(Unfit::of(Op::Add, self, other))
@@ -55,7 +55,7 @@ impl Frac {
     pub fn sub(self, other: Frac) -> Result<Frac, Unfit>
         ensures value { IfOk result (λ f. f ≡ self -ℚ other) }
         ensures fits { OnOk result (SubFits self other) }
-        ensures step { IfErr result (λ e. e ≡ unfit Op.Sub self other) }
+        ensures step { IfErr result (λ e. e ≡ step_of Op.Sub self other) }
         ensures unfit { OnErr result (¬ (SubFits self other)) }
     {
         self.difference(other)
@@ -70,7 +70,7 @@ impl Frac {
     pub fn mul(self, other: Frac) -> Result<Frac, Unfit>
         ensures value { IfOk result (λ f. f ≡ self *ℚ other) }
         ensures fits { OnOk result (MulFits self other) }
-        ensures step { IfErr result (λ e. e ≡ unfit Op.Mul self other) }
+        ensures step { IfErr result (λ e. e ≡ step_of Op.Mul self other) }
         ensures unfit { OnErr result (¬ (MulFits self other)) }
     {
         self.product(other).ok_or(Unfit::of(Op::Mul, self, other))
@@ -85,7 +85,7 @@ impl Frac {
         requires { other ≢ zero_ℚ }
         ensures value { IfOk result (λ f. f ≡ self *ℚ inv_ℚ other) }
         ensures fits { OnOk result (DivFits self other) }
-        ensures step { IfErr result (λ e. e ≡ unfit Op.Div self other) }
+        ensures step { IfErr result (λ e. e ≡ step_of Op.Div self other) }
         ensures unfit { OnErr result (¬ (DivFits self other)) }
     {
         self.quotient(other).ok_or(Unfit::of(Op::Div, self, other))

@@ -10,7 +10,7 @@ use Rattle.game_core.specs.Tree.{GameTree}
 use Rattle.game_core.specs.TreeGame.{game_of_tree}
 use Rattle.game_core.specs.declared.game.Game.{Game}
 use Rattle.game_core.specs.declared.game.Game.TheVariants.{Strategic, Extensive}
-use Rattle.behaviour_profile.specs.EntryTests.{action_counts, fault_of, profile_in, Passes, Test, IsNotNegative, CanBeAdded, SumsToOne}
+use Rattle.behaviour_profile.specs.EntryTests.{fault_of, profile_in, TestHolds, Test, IsNotNegative, CanBeAdded, SumsToOne}
 use Rattle.behaviour_profile.specs.declared.entries.ProfileFault.{ProfileFault}
 use Rattle.ne_printer.specs.ReadLines.{line_in}
 use Rattle.ne_printer.specs.declared.reading.LineStop.{LineStop}
@@ -39,6 +39,7 @@ use Rattle.gambit_tools.specs.Games.{game_in, within_bytes}
 use Rattle.gambit_tools.specs.Input.{most_bytes}
 use Rattle.gambit_tools.proofs.FormContentLemmas.{AreContents, AreReasons, IsOfContents, inner-reasons, only-reasons, recall-contents, strategic_form-contents, then-contents, then-reasons, told-contents}
 use Rattle.two_player_tools.proofs.FormSingleLemmas.{RecallsAreSingle}
+use Rattle.game_theory.specs.OwnSets.{action_counts}
 use Rattle.gambit_tools.proofs.ReadGameLemmas.{game_in-valid}
 use Rattle.gambit_tools.proofs.GameSingleLemmas.{game_in-single}
 
@@ -48,7 +49,7 @@ unread-reasons number line line_stop.Bad h = refl
 unread-reasons number line line_stop.Memory h = absurd h
 
 -- a test that is not passed
-failed-reasons : (number : ℕ) (test : Test) → ¬ (Passes test) → IsOfContents (check_refusal (faulty number (fault_of test)))
+failed-reasons : (number : ℕ) (test : Test) → ¬ (TestHolds test) → IsOfContents (check_refusal (faulty number (fault_of test)))
 failed-reasons number (IsNotNegative place entry) fails = refl
 failed-reasons number (CanBeAdded step) fails = fails
 failed-reasons number (SumsToOne group sum) fails = refl

@@ -2,14 +2,14 @@
 use Rattle.std.proofs.Common.{ℕ, ◌≡◌, ◌+◌, ◌≤◌, ◌<◌, ◌∙◌, inl, inr, sym, subst, refl, arith, Bool, List, [], ◌∷◌, length, Option, None, Some, Ok, Err}
 use Rattle.std.specs.Io.KnownBytes.{Consumes}
 use Rattle.answers.specs.Answers.{Gives}
-use Rattle.outside.specs.Counts.{Rose}
+use Rattle.outside.specs.Counts.{Rose, count_of_more, next_count}
 use Rattle.outside.specs.Inputs.{InputName, InputsSeen}
 use Rattle.words.specs.Words.{Command, Check}
 use Rattle.game_core.specs.declared.game.Game.{Game}
 use Rattle.gambit_tools.specs.Check.{check, verdicts}
 use Rattle.gambit_tools.specs.Input.{most_bytes, AreBytesOf, IsInputRefusal, IsReadToEnd, CountsDetermine}
 use Rattle.gambit_tools.specs.Games.{game_in}
-use Rattle.gambit_tools.specs.Outcome.{HasAnswer, HasReadBefore, IsComputed, IsRefusedIn, RunAnswer}
+use Rattle.gambit_tools.specs.Outcome.{AreRead, HasAnswer, HasReadBefore, IsComputed, IsRefusedIn, RunAnswer}
 use Rattle.refusals.specs.declared.refusal.Refusal.{Refusal}
 use Rattle.refusals.specs.declared.refusal.Refusal.TheVariants as refusal
 use Rattle.gambit_tools.proofs.CheckContentLemmas.{verdicts-contents}
@@ -22,11 +22,12 @@ some_bytes : (held : Option (List ℕ)) → (bytes : List ℕ) × AreBytesOf hel
 some_bytes None = ([], tt)
 some_bytes (Some known) = (known, refl)
 
--- after an input was read to its end the others are as they were
+-- after an input was read to its end the others are as they were, and one more end was met
 pub record IsAfterOne (before between : InputsSeen) : Type 0 where
   pub opening : between.open_faults ≡ before.open_faults
   pub reading : between.read_faults ≡ before.read_faults
   pub once : between.selections ≤ before.selections + 1
+  pub ends : between.ends ≡ next_count before.ends
   pub stay : (n : InputName) → between.held n ≡ before.held n
 
 counts_after : (before between after : InputsSeen) (r : Option Refusal) → IsAfterOne before between → CountsDetermine between after r → CountsDetermine before after r
@@ -34,6 +35,10 @@ counts_after before between after r s h = record {
   opening = λ less. h.opening (subst (λ n. n < after.open_faults) (sym s.opening) less);
   reading = λ less. h.reading (subst (λ n. n < after.read_faults) (sym s.reading) less);
 }
+
+-- two ends were met, one after the other
+ends_after_both : (before between after : InputsSeen) → IsAfterOne before between → after.ends ≡ next_count between.ends → after.ends ≡ count_of_more before.ends 2
+ends_after_both before between after s more = let one = s.ends in omega (arith, one, more)
 
 held_after : (before between after : InputsSeen) → IsAfterOne before between → ((n : InputName) → after.held n ≡ between.held n) → (n : InputName) → after.held n ≡ before.held n
 held_after before between after s stay n = stay n ∙ s.stay n
@@ -109,13 +114,14 @@ module _ (strategic : Bool) (bytes_name : List ℕ) (lines_name : InputName) whe
     pub read : IsReadToEnd lines_name after
     pub counts : CountsDetermine before after None
     pub twice : after.selections ≤ before.selections + 2
+    pub ends : after.ends ≡ count_of_more before.ends 2
     pub stay : (n : InputName) → after.held n ≡ before.held n
 
   -- one input after the other
   pub both-read : (before between after : InputsSeen) (bytes lines : List ℕ) → IsAfterOne before between → AreBytesOf (before.held game_name) bytes → AreBytesOf (between.held lines_name) lines
-      → length bytes ≤ most_bytes → length lines ≤ most_bytes → IsReadToEnd lines_name after → CountsDetermine between after None → after.selections ≤ between.selections + 1
+      → length bytes ≤ most_bytes → length lines ≤ most_bytes → IsReadToEnd lines_name after → CountsDetermine between after None → after.selections ≤ between.selections + 1 → after.ends ≡ next_count between.ends
       → ((n : InputName) → after.held n ≡ between.held n) → AreBothRead before after bytes lines
-  both-read before between after bytes lines s are_bytes are_lines few_bytes few_lines read counts few stay = record {
+  both-read before between after bytes lines s are_bytes are_lines few_bytes few_lines read counts few ends stay = record {
     are_bytes = are_bytes;
     are_lines = subst (λ held. AreBytesOf held lines) (s.stay lines_name) are_lines;
     few_bytes = few_bytes;
@@ -123,8 +129,13 @@ module _ (strategic : Bool) (bytes_name : List ℕ) (lines_name : InputName) whe
     read = read;
     counts = counts_after before between after None s counts;
     twice = (let once = s.once in omega (arith, few, once));
+    ends = ends_after_both before between after s ends;
     stay = held_after before between after s stay;
   }
+
+  -- that is what is read of both
+  both : (before after : InputsSeen) (bytes lines : List ℕ) → AreBothRead before after bytes lines → AreRead (game_name ∷ lines_name ∷ []) before after
+  both before after bytes lines h = record { last = h.read; ends = h.ends }
 
   memory-computed : (before after : InputsSeen) (bytes lines : List ℕ) → AreBothRead before after bytes lines → IsComputed command before after (Err refusal.Memory)
   memory-computed before after bytes lines h =
@@ -140,7 +151,7 @@ module _ (strategic : Bool) (bytes_name : List ℕ) (lines_name : InputName) whe
       let answer : HasAnswer command before (Err r) = whole before after bytes lines (Err r) h g in
       record {
         answers = subst (λ o. IsRefusedIn command before after r o) (sym o) answer;
-        has_read = subst (λ o. HasReadBefore (game_name ∷ lines_name ∷ []) before after o) (sym o) h.read;
+        has_read = subst (λ o. HasReadBefore (game_name ∷ lines_name ∷ []) before after o) (sym o) (both before after bytes lines h);
         selects_few = h.twice;
         counts = counts_none before after r h.counts;
         inputs_stay = h.stay;
@@ -161,7 +172,7 @@ module _ (strategic : Bool) (bytes_name : List ℕ) (lines_name : InputName) whe
   pub verdicts-computed : (before after : InputsSeen) (bytes lines : List ℕ) (game : Game) (answer : RunAnswer) → AreBothRead before after bytes lines → game_in bytes (Ok game) → Gives refusal.Memory (verdicts strategic game lines) answer → IsComputed command before after answer
   verdicts-computed before after bytes lines game (Ok text) h k g = record {
     answers = whole before after bytes lines (Ok text) h (tt, (λ more. (let few = h.few_bytes in omega (arith, few, more))), (tt, (λ more. (let few = h.few_lines in omega (arith, few, more))), (game, k, g)));
-    has_read = h.read;
+    has_read = both before after bytes lines h;
     selects_few = h.twice;
     counts = h.counts;
     inputs_stay = h.stay;

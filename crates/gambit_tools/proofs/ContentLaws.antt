@@ -1,11 +1,13 @@
 -- Refusals by the contents of an input come from there, and a step that a refusal names does not fit.
-use Rattle.std.proofs.Common.{ℕ, ◌≤◌, ◌<◌, inl, inr, refl, subst, sym, arith, Bool, true, false, List, length, Err}
+use Rattle.std.proofs.Common.{ℕ, ◌≤◌, ◌<◌, ◌∙◌, inl, inr, refl, subst, sym, arith, Bool, true, false, List, length, Err}
 use Rattle.answers.specs.Answers.{only, refused_by, ◌>>=◌}
 use Rattle.game_core.specs.declared.game.Game.{Game}
 use Rattle.game_core.specs.declared.game.Game.TheVariants.{Strategic, Extensive}
 use Rattle.game_core.specs.Table.{game_of}
 use Rattle.game_theory.specs.Trees.{Tree}
+use Rattle.frac128.specs.Steps.{Step, StepFits}
 use Rattle.game_core.specs.TokenList.{TokenList}
+use Rattle.game_core.specs.declared.token.Token.{Token}
 use Rattle.game_core.specs.Tree.{GameTree}
 use Rattle.game_core.specs.TreeGame.{game_of_tree}
 use Rattle.game_text.specs.Stops.{tokens_of}
@@ -14,6 +16,9 @@ use Rattle.game_text.specs.declared.reading.TextStop.TheVariants as text_stop
 use Rattle.nfg_reader.specs.Stops.{table_in}
 use Rattle.nfg_reader.specs.declared.reading.NfgStop.{NfgStop}
 use Rattle.nfg_reader.specs.declared.reading.NfgStop.TheVariants as nfg_stop
+use Rattle.tree_grammar.specs.FaultKinds.{IsKind}
+use Rattle.tree_grammar.specs.declared.kinds.EfgKind.{EfgKind}
+use Rattle.tree_grammar.specs.declared.kinds.EfgKind.TheVariants as efg_kind
 use Rattle.efg_reader.specs.Stops.{tree_in}
 use Rattle.efg_reader.specs.declared.fault.EfgStop.{EfgStop}
 use Rattle.efg_reader.specs.declared.fault.EfgStop.TheVariants as efg_stop
@@ -22,8 +27,9 @@ use Rattle.enumpure.specs.declared.listing.ListStop.{ListStop}
 use Rattle.enumpure.specs.declared.listing.ListStop.TheVariants as list_stop
 use Rattle.words.specs.Words.{Command, Enumpure, Enummixed, Lcp, Lp, Convert}
 use Rattle.gambit_tools.specs.Input.{most_bytes}
+use Rattle.gambit_tools.specs.Laws.{FaultNamesStep}
 use Rattle.refusals.specs.Told.{choice_refusal, text_refusal, nfg_refusal, efg_refusal, list_refusal}
-use Rattle.enumpure_trees.specs.StableStops.{stable_text}
+use Rattle.enumpure_trees.specs.PassingStops.{passing_text}
 use Rattle.enumpure_trees.specs.Values.{value_indices, value_steps}
 use Rattle.enumpure_trees.specs.declared.stop.ChoiceStop.{ChoiceStop}
 use Rattle.enumpure_trees.specs.declared.stop.ChoiceStop.TheVariants as choice_stop
@@ -47,8 +53,12 @@ table-contents tokens (nfg_stop.Fault fault) h = refl
 table-contents tokens (nfg_stop.TooLarge limit) h = refl
 table-contents tokens nfg_stop.Memory h = absurd h
 
+kind-unfit : (kind : EfgKind) (before rest : List Token) (step : Step) → IsKind kind before rest → FaultNamesStep kind step → ¬ (StepFits step)
+kind-unfit (efg_kind.ProbabilityRange set named) before rest step (_, _, _, _, unfitting, made) is = subst (λ s. ¬ (StepFits s)) (sym made ∙ is) unfitting
+kind-unfit kind before rest step h is = absurd is
+
 tree-contents : (tokens : TokenList) (stop : EfgStop) → tree_in tokens (Err stop) → IsOfContents (efg_refusal stop)
-tree-contents tokens (efg_stop.Fault fault) h = refl
+tree-contents tokens (efg_stop.Fault fault) ((rest, from, _), _) = λ step. kind-unfit fault.kind from.before rest step from.is_kind
 tree-contents tokens (efg_stop.TooLarge limit) h = refl
 tree-contents tokens efg_stop.Memory h = absurd h
 
@@ -83,7 +93,7 @@ table_text-contents game =
     then-contents (strategic_form game) (λ table. refused_by list_refusal (pure_text (game_of table))) (strategic_form-contents game)
     (λ table. told-contents list_refusal (pure_text (game_of table)) (list-contents _))
 
-choice-contents : (agents perfect : Bool) (t : Tree) (stop : ChoiceStop) → stable_text agents perfect t (Err stop) → IsOfContents (choice_refusal stop)
+choice-contents : (agents perfect : Bool) (t : Tree) (stop : ChoiceStop) → passing_text agents perfect t (Err stop) → IsOfContents (choice_refusal stop)
 choice-contents agents perfect t stop (inl h) = absurd h
 choice-contents agents perfect t stop (inr (nodes, _, inl (inl h))) = subst (λ s. IsOfContents (choice_refusal s)) (sym h.2) refl
 choice-contents agents perfect t stop (inr (nodes, _, inl (inr (_, _, h)))) =
@@ -92,8 +102,8 @@ choice-contents agents perfect t stop (inr (nodes, _, inr (_, _, inl h))) = absu
 choice-contents agents perfect t stop (inr (nodes, _, inr (_, _, inr (text, _, h)))) = subst (λ s. IsOfContents (choice_refusal s)) (sym h.2) refl
 
 tree_answer-contents : (agents perfect : Bool) (tree : GameTree) → AreContents (tree_answer agents perfect tree)
-tree_answer-contents true perfect tree r h = told-contents choice_refusal (stable_text true perfect (game_of_tree tree)) (choice-contents true perfect (game_of_tree tree)) r h
-tree_answer-contents false true tree r h = told-contents choice_refusal (stable_text false true (game_of_tree tree)) (choice-contents false true (game_of_tree tree)) r h
+tree_answer-contents true perfect tree r h = told-contents choice_refusal (passing_text true perfect (game_of_tree tree)) (choice-contents true perfect (game_of_tree tree)) r h
+tree_answer-contents false true tree r h = told-contents choice_refusal (passing_text false true (game_of_tree tree)) (choice-contents false true (game_of_tree tree)) r h
 tree_answer-contents false false tree r (inl h) = subst IsOfContents (sym h.2) (form-contents tree h.0 h.1)
 tree_answer-contents false false tree r (inr h) = subst IsOfContents (sym h.2.2) (list-contents _ h.2.0 h.2.1)
 
@@ -110,5 +120,5 @@ tool_of-contents (Enumpure strategic agents perfect file) game r h = enumpure-co
 tool_of-contents (Enummixed all workers file) game r h = enummixed-contents all game r h
 tool_of-contents (Lcp strategic perfect file) game r h = lcp_tool-contents strategic perfect game r h
 tool_of-contents (Lp strategic prices perfect file) game r h = lp_tool-contents strategic prices perfect game r h
-tool_of-contents (Convert html row column file) game r h = convert-contents html row column game r h
+tool_of-contents (Convert layout row column file) game r h = convert-contents layout row column game r h
 tool_of-contents _ game r h = absurd h

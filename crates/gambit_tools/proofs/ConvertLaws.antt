@@ -1,5 +1,5 @@
 -- The tool `convert` has at most one answer, and its refusals come from the contents of its input.
-use Rattle.std.proofs.Common.{ℕ, ◌-◌, ◌≡◌, refl, Bool, true, false, Err}
+use Rattle.std.proofs.Common.{ℕ, ◌-◌, ◌≡◌, refl, Err}
 use Rattle.answers.specs.Answers.{Answer, IsSingle, ◌>>◌, refuse_where, refused_by}
 use Rattle.answers.proofs.AnswerLemmas.{bind-single, refused_by-single}
 use Rattle.game_core.specs.Table.{GameTable}
@@ -16,18 +16,20 @@ use Rattle.refusals.specs.Told.{convert_refusal}
 use Rattle.refusals.specs.declared.refusal.Refusal.{Refusal}
 use Rattle.two_player_tools.specs.StrategicForms.{strategic_form}
 use Rattle.two_player_tools.proofs.StrategicFormLemmas.{strategic_form-single}
+use Rattle.words.specs.declared.Layout.{Layout}
+use Rattle.words.specs.declared.Layout.TheVariants as layouts
 use Rattle.gambit_tools.specs.Convert.{convert, layout_in}
 use Rattle.gambit_tools.proofs.FormContentLemmas.{AreReasons, IsOfContents, inner-reasons, strategic_form-contents, then-contents, then-reasons, told-contents, where-reasons}
 
 -- ---- one answer
-layout_in-single : (html : Bool) (table : GameTable) (row column : ℕ) → IsSingle (layout_in html table row column)
-layout_in-single true table row column = laid_out-single Html table row column
-layout_in-single false table row column = laid_out-single Sgame table row column
+layout_in-single : (shape : Layout) (table : GameTable) (row column : ℕ) → IsSingle (layout_in shape table row column)
+layout_in-single layouts.Html table row column = laid_out-single Html table row column
+layout_in-single layouts.Sgame table row column = laid_out-single Sgame table row column
 
-pub convert-single : (html : Bool) (row column : ℕ) (game : Game) → IsSingle (convert html row column game)
-convert-single html row column game =
-    bind-single (strategic_form game) (λ table. refused_by convert_refusal (layout_in html table row column)) (strategic_form-single game)
-    (λ table _. refused_by-single convert_refusal (layout_in html table row column) (layout_in-single html table row column))
+pub convert-single : (shape : Layout) (row column : ℕ) (game : Game) → IsSingle (convert shape row column game)
+convert-single shape row column game =
+    bind-single (strategic_form game) (λ table. refused_by convert_refusal (layout_in shape table row column)) (strategic_form-single game)
+    (λ table _. refused_by-single convert_refusal (layout_in shape table row column) (layout_in-single shape table row column))
 
 -- ---- contents
 laid_out-reasons : (style : Style) (t : GameTable) (row column : ℕ) → AreReasons convert_refusal (laid_out style t row column)
@@ -43,11 +45,11 @@ laid_out-reasons style t row column =
     (λ _. where-reasons convert_refusal (row ≡ column) (convert_stop.SamePlayer row) refl))
     (λ _. inner-reasons convert_refusal convert_stop.TooLarge (limited_text text) (λ limit h. refl))
 
-layout_in-reasons : (html : Bool) (table : GameTable) (row column : ℕ) → AreReasons convert_refusal (layout_in html table row column)
-layout_in-reasons true table row column = laid_out-reasons Html table row column
-layout_in-reasons false table row column = laid_out-reasons Sgame table row column
+layout_in-reasons : (shape : Layout) (table : GameTable) (row column : ℕ) → AreReasons convert_refusal (layout_in shape table row column)
+layout_in-reasons layouts.Html table row column = laid_out-reasons Html table row column
+layout_in-reasons layouts.Sgame table row column = laid_out-reasons Sgame table row column
 
-pub convert-contents : (html : Bool) (row column : ℕ) (game : Game) (r : Refusal) → convert html row column game (Err r) → IsOfContents r
-convert-contents html row column game =
-    then-contents (strategic_form game) (λ table. refused_by convert_refusal (layout_in html table row column)) (strategic_form-contents game)
-    (λ table. told-contents convert_refusal (layout_in html table row column) (layout_in-reasons html table row column))
+pub convert-contents : (shape : Layout) (row column : ℕ) (game : Game) (r : Refusal) → convert shape row column game (Err r) → IsOfContents r
+convert-contents shape row column game =
+    then-contents (strategic_form game) (λ table. refused_by convert_refusal (layout_in shape table row column)) (strategic_form-contents game)
+    (λ table. told-contents convert_refusal (layout_in shape table row column) (layout_in-reasons shape table row column))

@@ -33,6 +33,7 @@ use Rattle.sequence_form.specs.Paths.{node_steps, paths_in, tree_leaves}
 use Rattle.sequence_form.specs.Sequences.{start_side, tree_side}
 use Rattle.sequence_form.specs.declared.counts.Counts.{Counts}
 use Rattle.two_player_tools.specs.Entries.{entries_in, plans_line}
+use Rattle.gambit_tools.specs.Laws.{FaultNamesStep}
 use Rattle.gambit_tools.specs.Origins.{Contents, origin}
 use Rattle.two_player_tools.specs.StrategicForms.{strategic_form}
 use Rattle.two_player_tools.specs.TwoPlayers.{form_in, form_of_table, form_of_tree, table_counts, tree_counts, two_players}
@@ -42,11 +43,13 @@ use Rattle.refusals.specs.declared.refusal.Refusal.TheVariants as refusal
 
 -- a refusal comes from the contents, and where it names a step, that step does not fit
 abbrev pub IsOfContents : Refusal → Type 0
+IsOfContents (refusal.Efg fault) = (step : Step) → FaultNamesStep fault.kind step → ¬ (StepFits step)
 IsOfContents (refusal.Range place step) = ¬ (StepFits step)
 IsOfContents (refusal.SubgameRange node place step) = ¬ (StepFits step)
 IsOfContents r = origin r ≡ Contents
 
 pub contents-origin : (r : Refusal) → IsOfContents r → origin r ≡ Contents
+contents-origin (refusal.Efg fault) h = refl
 contents-origin (refusal.Range place step) h = refl
 contents-origin (refusal.SubgameRange node place step) h = refl
 contents-origin r h = h

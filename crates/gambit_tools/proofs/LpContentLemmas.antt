@@ -1,7 +1,7 @@
 -- Refusals of the tool `lp` come from the contents of its input, and the steps that they name do not fit.
 use Rattle.std.proofs.Common.{inl, inr, refl, subst, sym, Bool, true, false, [], ◌++◌, Err}
 use Rattle.answers.specs.Answers.{only, refuse_where, ◌>>=◌, refused_by}
-use Rattle.frac128.specs.Steps.{AddFits, unfit}
+use Rattle.frac128.specs.Steps.{AddFits, step_of}
 use Rattle.frac128.specs.declared.steps.Op.TheVariants.{Add}
 use Rattle.game_theory.specs.Lines.{line_text}
 use Rattle.game_core.specs.declared.game.Game.{Game}
@@ -60,7 +60,7 @@ solution_in-contents f =
 prices-contents : (prices : Bool) (f : FormData) (s : Solution) → AreContents (prices_in prices f s)
 prices-contents false f s = only-contents []
 prices-contents true f s =
-    then-contents (refuse_where (¬ (AddFits (first_price s) f.least_one)) (refusal.Range site.Value (unfit Add (first_price s) f.least_one))) (λ _. only (prices_text f s))
+    then-contents (refuse_where (¬ (AddFits (first_price s) f.least_one)) (refusal.Range site.Value (step_of Add (first_price s) f.least_one))) (λ _. only (prices_text f s))
     (where-contents _ _ (λ h. h)) (λ _. only-contents (prices_text f s))
 
 text-contents : (strategic prices : Bool) (game : Game) (f : FormData) (s : Solution) → AreContents (solution_text strategic prices game f s)

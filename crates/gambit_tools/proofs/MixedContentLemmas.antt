@@ -19,7 +19,7 @@ use Rattle.reply_polytope.specs.Stops.{polytopes_in}
 use Rattle.reply_polytope.specs.declared.stop.PolyStop.{PolyStop}
 use Rattle.basis_enum.specs.Enumeration.{vertices_in}
 use Rattle.basis_enum.specs.Reached.{level_of, told_start}
-use Rattle.basis_enum.specs.declared.stop.EnumStop.{EnumStop}
+use Rattle.basis_enum.specs.declared.stop.EnumerationStop.{EnumerationStop}
 use Rattle.basis_enum.specs.Systems.{variable_count}
 use Rattle.label_pairing.specs.Stops.{pairs_in}
 use Rattle.label_pairing.proofs.StopLemmas.{pairs_not_memory}
@@ -52,7 +52,7 @@ polytopes-reasons g stop (inr (_, _, inr (_, _, inr (one, _, inl h)))) = shift-r
 polytopes-reasons g stop (inr (_, _, inr (_, _, inr (one, _, inr (two, _, h))))) = absurd h
 
 -- the levels of the enumeration
-level-reasons : (polytope : ℕ) (s : LinearSystem) (k : ℕ) (stop : EnumStop) → level_of s k (Err stop) → IsOfContents (mixed_refusal (enumeration_stop polytope stop))
+level-reasons : (polytope : ℕ) (s : LinearSystem) (k : ℕ) (stop : EnumerationStop) → level_of s k (Err stop) → IsOfContents (mixed_refusal (enumeration_stop polytope stop))
 level-reasons polytope s zero stop (inl (begin, inl h, e)) =
     subst (λ s. IsOfContents (mixed_refusal (enumeration_stop polytope s))) (sym (e ∙ ap told_start h.2)) (h.1.first_unfit.does_not_fit)
 level-reasons polytope s zero stop (inl (begin, inr (_, _, h), e)) = absurd h
@@ -65,7 +65,7 @@ level-reasons polytope s (suc k) stop (inr (l, _, inr (_, _, inr (_, _, inl h)))
     subst (λ s. IsOfContents (mixed_refusal (enumeration_stop polytope s))) (sym h.told) (h.first.first_unfit.does_not_fit)
 level-reasons polytope s (suc k) stop (inr (l, _, inr (_, _, inr (_, _, inr (_, _, h))))) = absurd h
 
-vertices-reasons : (polytope : ℕ) (s : LinearSystem) (stop : EnumStop) → vertices_in s (Err stop) → IsOfContents (mixed_refusal (enumeration_stop polytope stop))
+vertices-reasons : (polytope : ℕ) (s : LinearSystem) (stop : EnumerationStop) → vertices_in s (Err stop) → IsOfContents (mixed_refusal (enumeration_stop polytope stop))
 vertices-reasons polytope s stop (inl (k, h)) = level-reasons polytope s k stop h
 vertices-reasons polytope s stop (inr (_, _, h)) = absurd h
 

@@ -2,13 +2,13 @@
 use Rattle.std.proofs.Common.{ℕ, ◌≡◌, ◌+◌, ◌≤◌, ◌<◌, ◌∙◌, inl, inr, sym, ap, subst, refl, arith, length-append, List, [], ◌∷◌, length, Contains, Option, None, Some, Result, Ok, Err}
 use Rattle.std.specs.Io.KnownBytes.{Consumes}
 use Rattle.answers.specs.Answers.{Gives}
+use Rattle.outside.specs.Counts.{next_count}
 use Rattle.outside.specs.Inputs.{InputName, InputsSeen}
 use Rattle.words.specs.Words.{Command, Check, Make}
 use Rattle.game_core.specs.declared.game.Game.{Game}
 use Rattle.gambit_tools.specs.Input.{most_bytes, AreBytesOf, IsInputRefusal, IsReadToEnd, CountsDetermine}
 use Rattle.gambit_tools.specs.Games.{game_in}
 use Rattle.gambit_tools.specs.Commands.{inputs_of, tool_of, game_answer, answer_of}
-use Rattle.gambit_tools.specs.Origins.{Contents as of_contents}
 use Rattle.gambit_tools.specs.Outcome.{AreContents, AreRead, RunAnswer, HasAnswer, HasReadBefore, IsComputed, IsRefusedIn, SelectsFew}
 use Rattle.refusals.specs.declared.refusal.Refusal.{Refusal}
 use Rattle.refusals.specs.declared.refusal.Refusal.TheVariants as refusal
@@ -67,9 +67,16 @@ pub record IsRead (command : Command) (name : InputName) (before after : InputsS
   pub are : AreBytesOf (before.held name) bytes
   pub few : length bytes ≤ most_bytes
   pub read : IsReadToEnd name after
+  pub ends : after.ends ≡ next_count before.ends
   pub counts : CountsDetermine before after None
   pub once : after.selections ≤ before.selections + 1
   pub stay : (n : InputName) → after.held n ≡ before.held n
+
+-- that is what is read of the one input
+one_read : (command : Command) (name : InputName) (before after : InputsSeen) (bytes : List ℕ) → IsRead command name before after bytes → AreRead (inputs_of command) before after
+one_read command name before after bytes h =
+    let read : AreRead (name ∷ []) before after = record { last = h.read; ends = h.ends } in
+    subst (λ names. AreRead names before after) (sym h.one) read
 
 -- want of memory
 memory-computed : (command : Command) (name : InputName) (before after : InputsSeen) (bytes : List ℕ) → IsRead command name before after bytes → IsComputed command before after (Err refusal.Memory)
@@ -83,7 +90,7 @@ contents-computed command name before after bytes r h c g =
     let answer : HasAnswer command before (Err r) = record { contents = bytes ∷ []; are_contents = one_content command name before bytes h.one h.are; is_answer = g } in
     record {
       answers = subst (λ o. IsRefusedIn command before after r o) (sym o) answer;
-      has_read = subst (λ o. HasReadBefore (inputs_of command) before after o) (sym o) (subst (λ names. HasReadBefore names before after of_contents) (sym h.one) h.read);
+      has_read = subst (λ o. HasReadBefore (inputs_of command) before after o) (sym o) (one_read command name before after bytes h);
       selects_few = one_selection command name before after h.one h.once;
       counts = counts_none before after r h.counts;
       inputs_stay = h.stay;
@@ -99,7 +106,7 @@ pub text-computed : (command : Command) (name : InputName) (before after : Input
     → Gives refusal.Memory (tool_of command game) answer → IsComputed command before after answer
 text-computed command name before after bytes game (Ok text) h k g = record {
   answers = record { contents = bytes ∷ []; are_contents = one_content command name before bytes h.one h.are; is_answer = one_answer command name bytes (Ok text) h.one (game, k, g) };
-  has_read = subst (λ names. AreRead names before after) (sym h.one) h.read;
+  has_read = one_read command name before after bytes h;
   selects_few = one_selection command name before after h.one h.once;
   counts = h.counts;
   inputs_stay = h.stay;

@@ -4,9 +4,7 @@ use Rattle.std.proofs.Common.{ℕ, ◌≡◌, inl, inr, refl, Bool, true, false,
 use Rattle.std.specs.List.{range_with_len}
 use Rattle.answers.specs.Answers.{by_case, only, ◌>>=◌, ◌>>◌, refused_by}
 use Rattle.rational.specs.Rational.{ℚ}
-use Rattle.game_theory.specs.Behaviour.{Behaviour}
 use Rattle.game_theory.specs.Lines.{line_text}
-use Rattle.game_theory.specs.Trees.{Tree}
 use Rattle.game_core.specs.Tree.{GameTree}
 use Rattle.game_core.specs.TreeGame.{game_of_tree}
 use Rattle.game_core.specs.declared.game.Game.{Game}
@@ -15,7 +13,6 @@ use Rattle.behaviour_profile.specs.Plans.{plan_behaviour}
 use Rattle.perfect_recall.specs.Found.{recall_of}
 use Rattle.sequence_data.specs.Data.{FormData}
 use Rattle.subgames.specs.MadeCuts.{MadeCut}
-use Rattle.verdicts.specs.BehaviourPayoffs.{behaviour_payoffs_in}
 use Rattle.verdicts.specs.TreeSteps.{now_steps_at}
 use Rattle.verdicts.specs.declared.payoffs.PayoffsStop.{PayoffsStop}
 use Rattle.verdicts.specs.declared.payoffs.PayoffsStop.TheVariants as payoffs_stop
@@ -24,7 +21,7 @@ use Rattle.refusals.specs.Told.{behaviour_refusal, recall_refusal}
 use Rattle.refusals.specs.declared.refusal.Refusal.{Refusal}
 use Rattle.refusals.specs.declared.refusal.Refusal.TheVariants as refusal
 use Rattle.two_player_tools.specs.Lp.{solution_in}
-use Rattle.two_player_tools.specs.Perfect.{cut_in, entries_by, in_subgame, lcp_tool, lp_tool, payoffs_of, perfect_in, perfect_text, plans_by, worth_refusal}
+use Rattle.two_player_tools.specs.Perfect.{cut_entries_in, entries_by, in_subgame, lcp_tool, lp_tool, node_payoffs_fit, perfect_in, perfect_text, plans_by, worth_refusal}
 use Rattle.two_player_tools.specs.TwoPlayers.{form_of_tree, rows_by, two_players}
 use Rattle.two_player_tools.specs.declared.forms.Method.{Method}
 use Rattle.two_player_tools.specs.declared.forms.Method.TheVariants.{LinearProgram, Complementarity}
@@ -51,24 +48,24 @@ in_subgame-contents n nodes (refusal.Range place step) h = h
 in_subgame-contents n nodes (refusal.NotConstant first second first_sum second_sum) h = refl
 in_subgame-contents n nodes r h = h
 
-payoffs-contents : (n : ℕ) (t : GameTree) (entries : List ℚ) (stop : PayoffsStop) → payoffs_of t entries (Err stop) → IsOfContents (worth_refusal n stop)
+payoffs-contents : (n : ℕ) (t : GameTree) (entries : List ℚ) (stop : PayoffsStop) → node_payoffs_fit t entries (Err stop) → IsOfContents (worth_refusal n stop)
 payoffs-contents n t entries stop (b, _, h) =
     fitting-reasons (worth_refusal n) (λ unfit. payoffs_stop.Range unfit.0 unfit.1) (λ i. now_steps_at (game_of_tree t) b i 0) (range_with_len 0 (game_of_tree t).players) (λ unfit u. u) stop h
 
-cut_in-contents : (method : Method) (n : ℕ) (cut : MadeCut) → AreContents (cut_in method n cut)
-cut_in-contents method n cut =
-    let paid = λ (entries : List ℚ). by_case (n ≡ 0) (only tt) (refused_by (worth_refusal n) (payoffs_of cut.tree entries)) in
+cut_entries_in-contents : (method : Method) (n : ℕ) (cut : MadeCut) → AreContents (cut_entries_in method n cut)
+cut_entries_in-contents method n cut =
+    let paid = λ (entries : List ℚ). by_case (n ≡ 0) (only tt) (refused_by (worth_refusal n) (node_payoffs_fit cut.tree entries)) in
     then-contents (refused_by (in_subgame n cut.nodes) (entries_by method cut.tree)) (λ entries. paid entries >> only entries)
     (told-contents (in_subgame n cut.nodes) (entries_by method cut.tree) (λ stop h. in_subgame-contents n cut.nodes stop (entries_by-contents method cut.tree stop h)))
     (λ entries. then-contents (paid entries) (λ _. only entries) (unpaid entries) (λ _. only-contents entries))
   where
-    unpaid : (entries : List ℚ) → AreContents (by_case (n ≡ 0) (only tt) (refused_by (worth_refusal n) (payoffs_of cut.tree entries)))
+    unpaid : (entries : List ℚ) → AreContents (by_case (n ≡ 0) (only tt) (refused_by (worth_refusal n) (node_payoffs_fit cut.tree entries)))
     unpaid entries r (inl h) = only-contents tt r h.1
-    unpaid entries r (inr h) = told-contents (worth_refusal n) (payoffs_of cut.tree entries) (payoffs-contents n cut.tree entries) r h.1
+    unpaid entries r (inr h) = told-contents (worth_refusal n) (node_payoffs_fit cut.tree entries) (payoffs-contents n cut.tree entries) r h.1
 
 -- ---- the tree
 perfect_in-contents : (method : Method) (t : GameTree) → AreContents (perfect_in method t)
-perfect_in-contents method t r (worth, b, n, below, root, solved, stopped) = cut_in-contents method n stopped.cut r stopped.stops
+perfect_in-contents method t r (worth, b, n, below, root, solved, stopped) = cut_entries_in-contents method n stopped.cut r stopped.stops
 
 perfect_text-contents : (method : Method) (t : GameTree) → AreContents (perfect_text method t)
 perfect_text-contents method t =

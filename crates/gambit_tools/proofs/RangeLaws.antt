@@ -17,6 +17,7 @@ use Rattle.gambit_tools.proofs.MakeLaws.{make-contents}
 
 -- where a refusal comes from the contents, a step that it names does not fit
 named-unfit : (r : Refusal) (step : Step) → IsOfContents r → NamesStep r step → ¬ (StepFits step)
+named-unfit (refusal.Efg fault) named h is = h named is
 named-unfit (refusal.Range place step) named h is = subst (λ s. ¬ (StepFits s)) is h
 named-unfit (refusal.SubgameRange node place step) named h is = subst (λ s. ¬ (StepFits s)) is h
 named-unfit r named h is = absurd is

@@ -13,7 +13,7 @@ use Rattle.gambit_tools.specs.Seen.{Outside, Seen, but_for_err}
 use Rattle.gambit_tools.specs.Input.{AreBytesOf, CountsDetermine}
 use Rattle.gambit_tools.specs.Commands.{inputs_of, answer_of}
 use Rattle.gambit_tools.specs.Origins.{Origin, Words, OutsideFault, Length, Contents as OfContents, Memory, Opening, Reading, Writing, origin}
-use Rattle.gambit_tools.specs.Outcome.{RunAnswer, AreContents, AreToldContents, HasAnswer, AreRead, HasReadBefore, IsRunStop, IsCommandRun, IsRunOf, IsExact, IsComplete, NoFault, IsTold, IsToldRun}
+use Rattle.gambit_tools.specs.Outcome.{RunAnswer, AreContents, AreToldContents, HasAnswer, AreRead, IsLastRead, HasReadBefore, IsRunStop, IsCommandRun, IsRunOf, IsExact, IsComplete, NoFault, IsTold, IsToldRun}
 use Rattle.refusals.specs.Refusals.{status_of, run_status, HasFormedLine, IsToldAs}
 use Rattle.refusals.specs.declared.refusal.Refusal.{Refusal}
 use Rattle.refusals.specs.declared.refusal.Refusal.TheVariants as refusal
@@ -35,11 +35,15 @@ formed_contents (refusal.NoSuchPlayer number) names = refl
 formed_contents (refusal.SamePlayer number) names = refl
 formed_contents _ names = elim names [ ]
 
+-- the input that was read last is selected
+last_selected : (name : InputName) (names : List InputName) (after : InputsSeen) → IsLastRead (name ∷ names) after → (chosen : InputName) × Contains (name ∷ names) chosen × (after.selected ≡ Some chosen)
+last_selected name [] after h = (name, first_in name [], h.selected)
+last_selected name (other ∷ names) after h = let s = last_selected other names after h in (s.0, rest_in name s.0 (other ∷ names) s.1, s.2)
+
 -- of inputs that were read one is selected, or nothing was read
 some_read : (names : List InputName) (before after : InputsSeen) → AreRead names before after → (after ≡ before) ⊎ ((name : InputName) × Contains names name × (after.selected ≡ Some name))
 some_read [] before after h = inl h
-some_read (name ∷ []) before after h = inr (name, first_in name [], h.selected)
-some_read (name ∷ other ∷ names) before after h = elim (some_read (other ∷ names) before after h) [ inl e ↦ inl e | inr s ↦ inr (s.0, rest_in name s.0 (other ∷ names) s.1, s.2) ]
+some_read (name ∷ names) before after h = inr (last_selected name names after h.last)
 
 -- want of memory that is told in place of a refusal by the contents
 memory_told : (command : Command) (before after : Outside) (r : Refusal) → origin r ≡ OfContents → IsCommandRun command before after (Err r) → IsCommandRun command before after (Err refusal.Memory)

@@ -15,8 +15,8 @@ use Rattle.enumpure_trees.proofs.EquilibriumLineLemmas.{text-determined}
 use Rattle.enumpure.specs.Stops.{pure_text}
 use Rattle.enumpure.proofs.OneTextLaws.{pure_text-single, within_text_limit-single}
 use Rattle.words.specs.Words.{Command, Enumpure, Enummixed, Lcp, Lp, Convert, Check, Make}
-use Rattle.enumpure_trees.specs.StableStops.{stable_text}
-use Rattle.enumpure_trees.proofs.OneTextLaws.{stable_text-single}
+use Rattle.enumpure_trees.specs.PassingStops.{passing_text}
+use Rattle.enumpure_trees.proofs.OneTextLaws.{passing_text-single}
 use Rattle.refusals.specs.Told.{choice_refusal, form_refusal, list_refusal}
 use Rattle.two_player_tools.specs.GameTypes.{IsGame}
 use Rattle.two_player_tools.specs.Perfect.{lcp_tool, lp_tool}
@@ -39,8 +39,8 @@ table_text-single game =
     bind-single (strategic_form game) (λ table. refused_by list_refusal (pure_text (game_of_table table))) (strategic_form-single game)
     (λ table _. refused_by-single list_refusal (pure_text (game_of_table table)) (pure_text-single (game_of_table table)))
 
-choices-single : (agents perfect : Bool) (tree : GameTree) → IsSingle (refused_by choice_refusal (stable_text agents perfect (game_of_tree tree)))
-choices-single agents perfect tree = refused_by-single choice_refusal (stable_text agents perfect (game_of_tree tree)) (stable_text-single agents perfect (game_of_tree tree))
+choices-single : (agents perfect : Bool) (tree : GameTree) → IsSingle (refused_by choice_refusal (passing_text agents perfect (game_of_tree tree)))
+choices-single agents perfect tree = refused_by-single choice_refusal (passing_text agents perfect (game_of_tree tree)) (passing_text-single agents perfect (game_of_tree tree))
 
 tree-single : (agents perfect : Bool) (tree : GameTree) → IsSingle (tree_answer agents perfect tree)
 tree-single true perfect tree = choices-single true perfect tree
@@ -68,7 +68,7 @@ tool_of-single (Enumpure strategic agents perfect file) game solutions w = enump
 tool_of-single (Enummixed all workers file) game solutions w = enummixed-single all game
 tool_of-single (Lcp strategic perfect file) game solutions w = solutions.lcp strategic perfect game w
 tool_of-single (Lp strategic prices perfect file) game solutions w = solutions.lp strategic prices perfect game w
-tool_of-single (Convert html row column file) game solutions w = convert-single html row column game
+tool_of-single (Convert layout row column file) game solutions w = convert-single layout row column game
 tool_of-single _ game solutions w = λ one other h k. absurd h
 
 game_answer-single : SolutionsAreSingle → (command : Command) (bytes : List ℕ) → IsSingle (game_answer command bytes)

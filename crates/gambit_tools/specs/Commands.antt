@@ -20,7 +20,7 @@ inputs_of (Enumpure strategic agents perfect file) = file ∷ []
 inputs_of (Enummixed all workers file) = file ∷ []
 inputs_of (Lcp strategic perfect file) = file ∷ []
 inputs_of (Lp strategic prices perfect file) = file ∷ []
-inputs_of (Convert html row column file) = file ∷ []
+inputs_of (Convert layout row column file) = file ∷ []
 inputs_of (Check strategic game lines) = Some game ∷ lines ∷ []
 inputs_of (Make number rows columns workers) = []
 
@@ -30,7 +30,7 @@ tool_of (Enumpure strategic agents perfect file) game = enumpure strategic agent
 tool_of (Enummixed all workers file) game = enummixed all game
 tool_of (Lcp strategic perfect file) game = lcp_tool strategic perfect game
 tool_of (Lp strategic prices perfect file) game = lp_tool strategic prices perfect game
-tool_of (Convert html row column file) game = convert html row column game
+tool_of (Convert layout row column file) game = convert layout row column game
 tool_of _ game = λ answer. ⊥
 
 -- what a command's tool answers for the game in a text

@@ -15,8 +15,8 @@ use Rattle.enumpure_trees.specs.Stops.{behaviour_text}
 use Rattle.enumpure_trees.specs.TreeEquilibria.{IsTreeEquilibriaText}
 use Rattle.refusals.specs.Told.{choice_refusal, form_refusal, list_refusal}
 use Rattle.refusals.specs.declared.refusal.Refusal.{Refusal}
-use Rattle.enumpure_trees.specs.StableStops.{stable_text}
-use Rattle.enumpure_trees.specs.StableText.{IsStableText}
+use Rattle.enumpure_trees.specs.PassingStops.{passing_text}
+use Rattle.enumpure_trees.specs.PassingText.{IsPassingText}
 use Rattle.two_player_tools.specs.StrategicForms.{strategic_form}
 
 -- The answer for a tree as behaviour: its pure equilibria; but where the agent form or subgames are
@@ -26,7 +26,7 @@ tree_answer false false tree = do
   form ← refused_by form_refusal (reduced_form_of tree)
   refused_by list_refusal (behaviour_text (game_of_tree tree) form.choices)
 tree_answer agents perfect tree =
-    refused_by choice_refusal (stable_text agents perfect (game_of_tree tree))
+    refused_by choice_refusal (passing_text agents perfect (game_of_tree tree))
 
 -- The answer of `enumpure`: the pure equilibria of the game's strategic form, by strategies; but those
 -- of a tree as behaviour, unless strategies are asked for.
@@ -43,7 +43,7 @@ abbrev pub IsTreeText : (agents perfect : Bool) → GameTree → List ℕ → Ty
 IsTreeText false false tree text =
     (form : ReducedForm) × reduced_form_of tree (Ok form)
     × IsTreeEquilibriaText (game_of_tree tree) form.choices text
-IsTreeText agents perfect tree text = IsStableText agents perfect (game_of_tree tree) text
+IsTreeText agents perfect tree text = IsPassingText agents perfect (game_of_tree tree) text
 
 -- The text has the lines of exactly the pure equilibria of the game's strategic form, by strategies;
 -- but those of a tree as behaviour, unless strategies are asked for.

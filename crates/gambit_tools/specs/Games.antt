@@ -14,7 +14,7 @@ use Rattle.refusals.specs.Told.{text_refusal, nfg_refusal, efg_refusal}
 use Rattle.refusals.specs.declared.refusal.Refusal.{Refusal}
 use Rattle.refusals.specs.declared.refusal.Refusal.TheVariants as refusal
 
--- nothing, but of an input within the limit
+-- refuses an input above the limit
 abbrev pub within_bytes : List ℕ → Answer Refusal (Unit {0})
 within_bytes bytes = refuse_where (most_bytes < length bytes) refusal.TooLong
 

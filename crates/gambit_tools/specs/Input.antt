@@ -1,5 +1,5 @@
 -- The input that is read, and how reading it is refused.
-use Rattle.std.specs.Prelude.{ℕ, ◌+◌, ◌<◌, ◌≡◌, List, length, Option, None, Some}
+use Rattle.std.specs.Prelude.{ℕ, ◌+◌, ◌<◌, ◌≡◌, true, List, length, Option, None, Some}
 use Rattle.std.specs.Io.KnownBytes.{Consumes, IsAtEnd}
 use Rattle.outside.specs.Counts.{Rose}
 use Rattle.outside.specs.Inputs.{InputName, InputsSeen}
@@ -15,9 +15,10 @@ abbrev pub AreBytesOf : Option (List ℕ) → List ℕ → Type 0
 AreBytesOf None bytes = Unit {0}
 AreBytesOf (Some known) bytes = known ≡ bytes
 
--- the input was read to its end
+-- the input was read to its end: that end was met, and nothing is left where bytes are told
 pub record IsReadToEnd (name : InputName) (after : InputsSeen) : Type 0 where
   pub selected : after.selected ≡ Some name
+  pub end_met : after.at_end ≡ true
   pub at_end : IsAtEnd after.left
 
 -- one byte more than an input may have was read, and no further one

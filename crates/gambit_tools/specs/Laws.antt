@@ -5,6 +5,8 @@ use Rattle.frac128.specs.Steps.{Step, StepFits}
 use Rattle.game_core.specs.declared.game.Game.{Game}
 use Rattle.game_core.specs.MadeTables.{made_game}
 use Rattle.outside.specs.Inputs.{InputName}
+use Rattle.tree_grammar.specs.declared.kinds.EfgKind.{EfgKind}
+use Rattle.tree_grammar.specs.declared.kinds.EfgKind.TheVariants as efg_kind
 use Rattle.words.specs.Words.{Command, Enumpure, Enummixed, Lcp, Lp, Check, Make}
 use Rattle.two_player_tools.specs.LcpLaws.{IsLcpText}
 use Rattle.two_player_tools.specs.LpLaws.{IsLpText}
@@ -17,8 +19,9 @@ use Rattle.gambit_tools.specs.Make.{IsCountsText}
 use Rattle.refusals.specs.declared.refusal.Refusal.{Refusal}
 use Rattle.refusals.specs.declared.refusal.Refusal.TheVariants as refusal
 
--- Each text of `enumpure` lists the pure equilibria, that of `enummixed` the extreme ones, that of `lcp` is
--- an equilibrium, that of `lp` a solution, that of `check` tells of each line, and that of `make` counts.
+-- Each text of `enumpure` lists the pure equilibria, or with `-A` or `-P` on a tree the choices that pass; that of
+-- `enummixed` lists the extreme ones, that of `lcp` is an equilibrium, that of `lp` a solution, that of `check` tells of
+-- each line, and that of `make` counts.
 pub record TextsHoldForTheGame : Type 0 where
   pub enumpure : (strategic agents perfect : Bool) (file : InputName) (bytes text : List ℕ)
       → answer_of (Enumpure strategic agents perfect file) (bytes ∷ []) (Ok text)
@@ -39,8 +42,14 @@ pub record TextsHoldForTheGame : Type 0 where
       → answer_of (Make number rows columns workers) [] (Ok text)
       → IsCountsText (made_game number rows columns) text
 
+-- a fault of a tree's file names this step
+abbrev pub FaultNamesStep : EfgKind → Step → Type 0
+FaultNamesStep (efg_kind.ProbabilityRange set named) step = named ≡ step
+FaultNamesStep _ step = ⊥
+
 -- a refusal names this step
 abbrev pub NamesStep : Refusal → Step → Type 0
+NamesStep (refusal.Efg fault) step = FaultNamesStep fault.kind step
 NamesStep (refusal.Range place named) step = named ≡ step
 NamesStep (refusal.SubgameRange node place named) step = named ≡ step
 NamesStep _ step = ⊥

@@ -1,7 +1,7 @@
 -- What a run does: what it answers and why, what it reads and writes, and what it tells on standard error.
 use Rattle.std.specs.Prelude.{ℕ, ◌+◌, ◌<◌, ◌≤◌, ◌≡◌, ◌⊎◌, true, List, [], ◌∷◌, length, take, Contains, Option, None, Some, Ok, Err, Result}
 use Rattle.std.specs.Result.{result_err}
-use Rattle.outside.specs.Counts.{Rose}
+use Rattle.outside.specs.Counts.{Rose, count_of_more}
 use Rattle.outside.specs.Inputs.{InputName, InputsSeen}
 use Rattle.outside.specs.Sink.{SinkSeen, Takes}
 use Rattle.words.specs.Words.{Command, command_from}
@@ -40,12 +40,23 @@ pub record HasAnswer (command : Command) (before : InputsSeen) (answer : RunAnsw
   pub is_answer : answer_of command contents answer
 
 -- ---- what is read
--- after the inputs with these names were read, one after another: the last of them is selected and
--- was read to its end
+-- the last of these names is that of the selected input, which was read to its end
+abbrev pub IsLastRead : List InputName → InputsSeen → Type 0
+IsLastRead [] after = Unit {0}
+IsLastRead (name ∷ []) after = IsReadToEnd name after
+IsLastRead (name ∷ other ∷ names) after = IsLastRead (other ∷ names) after
+
+-- after the inputs with these names were read to their ends, one after another
+pub record AreReadToEnd (names : List InputName) (before after : InputsSeen) : Type 0 where
+  pub last : IsLastRead names after
+  -- the end was met in as many selections as there are names: in each selection, where nothing was
+  -- selected before and no more were made
+  pub ends : after.ends ≡ count_of_more before.ends (length names)
+
+-- what was read of inputs with these names, one after another
 abbrev pub AreRead : List InputName → InputsSeen → InputsSeen → Type 0
 AreRead [] before after = after ≡ before
-AreRead (name ∷ []) before after = IsReadToEnd name after
-AreRead (name ∷ other ∷ names) before after = AreRead (other ∷ names) before after
+AreRead (name ∷ names) before after = AreReadToEnd (name ∷ names) before after
 
 -- what was read of inputs with these names before a refusal with this origin
 abbrev pub HasReadBefore : List InputName → InputsSeen → InputsSeen → Origin → Type 0
@@ -58,7 +69,7 @@ HasReadBefore names before after Contents = AreRead names before after
 HasReadBefore names before after Memory =
     (after ≡ before) ⊎ ((name : InputName) × Contains names name × (after.selected ≡ Some name))
 
--- what a run has read: its last input to the end, or what it had to before a refusal
+-- what a run has read: its inputs to their ends, or what it had to before a refusal
 abbrev pub HasRead : List InputName → InputsSeen → InputsSeen → RunAnswer → Type 0
 HasRead names before after (Ok text) = AreRead names before after
 HasRead names before after (Err r) = HasReadBefore names before after (origin r)

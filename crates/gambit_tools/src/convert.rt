@@ -13,41 +13,41 @@ use outside::Inputs;
 use reduced_form::reduce;
 use refusals::Refusal;
 use std::alloc::Global;
+use words::Layout;
 
 // The layout of a table.
 fn layout_in(
     alloc: Global,
-    is_html: bool,
+    layout: Layout,
     table: &Table,
     row: u32,
     column: u32,
 ) -> Result<Vec<u8>, ConvertStop>
-    ensures { Gives stops.Memory (layout_in is_html table.now row column)
+    ensures { Gives stops.Memory (layout_in layout table.now row column)
         (map_ok result (λ text. text.items)) }
 {
-    if is_html {
-        html(alloc, table, row, column)
-    } else {
-        sgame(alloc, table, row, column)
+    match layout {
+        Layout::Html => html(alloc, table, row, column),
+        Layout::Sgame => sgame(alloc, table, row, column),
     }
 }
 
 // The layout of a game's strategic form.
 fn strategic_layout(
     alloc: Global,
-    html: bool,
+    layout: Layout,
     row: u32,
     column: u32,
     game: &Game,
 ) -> Result<Vec<u8>, Refusal>
-    ensures { Gives Refusal.Memory (convert html row column game.now)
+    ensures { Gives Refusal.Memory (convert layout row column game.now)
         (map_ok result (λ text. text.items)) }
 {
     match game {
-        Game::Strategic(table) => Ok(layout_in(alloc, html, table, row, column)?),
+        Game::Strategic(table) => Ok(layout_in(alloc, layout, table, row, column)?),
         Game::Extensive(tree) => {
             let reduced = reduce(alloc, tree)?;
-            Ok(layout_in(alloc, html, reduced.table(), row, column)?)
+            Ok(layout_in(alloc, layout, reduced.table(), row, column)?)
         }
     }
 }
@@ -57,15 +57,15 @@ fn strategic_layout(
 /// from 1.
 pub fn convert<I: Inputs>(
     alloc: Global,
-    html: bool,
+    layout: Layout,
     row: u32,
     column: u32,
     file: Option<String>,
     inputs: &mut I,
 ) -> Result<Vec<u8>, Refusal>
-    ensures { IsComputed (Convert html row column (option_map string_bytes file))
+    ensures { IsComputed (Convert layout row column (option_map string_bytes file))
         (I.seen inputs.old) (I.seen inputs.new) (map_ok result (λ text. text.items)) }
 {
     let game = read_game(alloc, inputs, file)?;
-    strategic_layout(alloc, html, row, column, &game)
+    strategic_layout(alloc, layout, row, column, &game)
 }

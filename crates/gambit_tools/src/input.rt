@@ -1,7 +1,8 @@
 // Reads an input to its end.
-ghost use Rattle.std.specs.Prelude.{◌≡◌, ◌+◌, ◌<◌, ◌≤◌, Option, List, ℕ, Ok, length, vec_len, option_map, string_bytes, IfOk, IfErr, OnOk};
+ghost use Rattle.std.specs.Prelude.{◌≡◌, ◌≢◌, ◌+◌, ◌<◌, ◌≤◌, Option, List, ℕ, Ok, false, true, length, vec_len, option_map, string_bytes, IsSome, IfOk, IfErr, OnOk, MatchResult};
 ghost use Rattle.std.specs.Result.{result_err};
 ghost use Rattle.std.specs.Io.KnownBytes.{Consumes, IsAtEnd};
+ghost use Rattle.outside.specs.Counts.{next_count};
 ghost use Rattle.outside.specs.Inputs.{InputName};
 ghost use Rattle.gambit_tools.specs.Input.{most_bytes, AreBytesOf, IsInputRefusal, IsPieceRefusal, IsReadingRefusal, IsReadToEnd, CountsDetermine};
 
@@ -25,7 +26,7 @@ fn new_buffer(alloc: Global) -> Result<Vec<u8>, AllocError>
 }
 
 // Reads the next piece of the selected input to the end of `bytes`, and answers how long it is. No byte is
-// read beyond the first above the limit. The length 0 comes only at the end of the input.
+// read beyond the first above the limit. The length 0 comes exactly at the end of the input.
 fn read_piece<I: Inputs>(
     inputs: &mut I,
     buffer: &mut [u8],
@@ -33,6 +34,8 @@ fn read_piece<I: Inputs>(
 ) -> Result<usize, Refusal>
     requires room { 0 < length buffer.old }
     requires few { vec_len bytes.old ≤ most_bytes }
+    requires is_selected { IsSome (I.seen inputs.old).selected }
+    requires before_end { (I.seen inputs.old).at_end ≡ false }
 
     ensures few { vec_len bytes.new ≤ most_bytes + 1 }
     ensures longer { IfOk result (λ count. vec_len bytes.new ≡ vec_len bytes.old + count) }
@@ -45,6 +48,11 @@ fn read_piece<I: Inputs>(
         → Consumes start (I.seen inputs.old).left bytes.old.items
         → AreBytesOf start bytes.new.items }
     ensures nothing_left { result ≡ Ok 0 → IsAtEnd (I.seen inputs.new).left }
+
+    ensures end_met { result ≡ Ok 0 → ((I.seen inputs.new).at_end ≡ true)
+        × ((I.seen inputs.new).ends ≡ next_count (I.seen inputs.old).ends) }
+    ensures no_end { result ≢ Ok 0 → ((I.seen inputs.new).at_end ≡ false)
+        × ((I.seen inputs.new).ends ≡ (I.seen inputs.old).ends) }
 
     ensures selected { OnOk result ((I.seen inputs.new).selected ≡ (I.seen inputs.old).selected) }
     ensures no_fault { OnOk result
@@ -60,19 +68,23 @@ fn read_piece<I: Inputs>(
     let Ok(count) = inputs.read(&mut buffer[..room]) else {
         return Err(Refusal::ReadFault);
     };
-    match bytes.extend_from_slice(&buffer[..count]) {
-        Ok(()) => Ok(count),
-        Err(_) => Err(Refusal::Memory),
-    }
+    bytes.extend_from_slice(&buffer[..count])?;
+    Ok(count)
 }
 
 // Reads the selected input to its end, or to the first byte above the limit.
 fn read_selected<I: Inputs>(alloc: Global, inputs: &mut I) -> Result<Vec<u8>, Refusal>
+    requires is_selected { IsSome (I.seen inputs.old).selected }
+    requires before_end { (I.seen inputs.old).at_end ≡ false }
     ensures bytes { IfOk result (λ bytes. AreBytesOf (I.seen inputs.old).left bytes.items) }
     ensures within_limit { IfOk result (λ bytes. vec_len bytes ≤ most_bytes) }
     ensures read { OnOk result
         (((I.seen inputs.new).selected ≡ (I.seen inputs.old).selected)
+        × ((I.seen inputs.new).at_end ≡ true)
         × IsAtEnd (I.seen inputs.new).left) }
+    ensures ends { MatchResult result
+        (λ _. (I.seen inputs.new).ends ≡ next_count (I.seen inputs.old).ends)
+        (λ _. (I.seen inputs.new).ends ≡ (I.seen inputs.old).ends) }
     ensures refused { IfErr result (IsReadingRefusal (I.seen inputs.old).left
         (I.seen inputs.old)
         (I.seen inputs.new)) }
@@ -82,9 +94,7 @@ fn read_selected<I: Inputs>(alloc: Global, inputs: &mut I) -> Result<Vec<u8>, Re
     ensures selections { (I.seen inputs.new).selections ≡ (I.seen inputs.old).selections }
     ensures held { (n : InputName) → (I.seen inputs.new).held n ≡ (I.seen inputs.old).held n }
 {
-    let Ok(mut buffer) = new_buffer(alloc) else {
-        return Err(Refusal::Memory);
-    };
+    let mut buffer = new_buffer(alloc)?;
     let mut bytes = Vec::new(alloc);
     while bytes.len() <= MOST_BYTES {
         let count = read_piece(inputs, &mut buffer, &mut bytes)?;
@@ -106,6 +116,9 @@ pub fn read_input<I: Inputs>(
         ((I.seen inputs.old).held (option_map string_bytes name)) bytes.items) }
     ensures within_limit { IfOk result (λ bytes. length bytes.items ≤ most_bytes) }
     ensures read { OnOk result (IsReadToEnd (option_map string_bytes name) (I.seen inputs.new)) }
+    ensures ends { MatchResult result
+        (λ _. (I.seen inputs.new).ends ≡ next_count (I.seen inputs.old).ends)
+        (λ _. (I.seen inputs.new).ends ≡ (I.seen inputs.old).ends) }
     ensures refused { IfErr result (IsInputRefusal (option_map string_bytes name)
         (I.seen inputs.old)
         (I.seen inputs.new)) }

@@ -7,7 +7,7 @@ ghost use Rattle.gambit_tools.specs.Outcome.{IsComputed};
 
 use crate::games::read_game;
 use enumpure::list_pure_equilibria;
-use enumpure_trees::{list_pure_behaviours, list_stable_choices};
+use enumpure_trees::{list_passing_choices, list_pure_behaviours};
 use game_core::{Game, Tree};
 use outside::Inputs;
 use reduced_form::reduce;
@@ -25,7 +25,7 @@ fn tree_equilibria(
         (map_ok result (λ text. text.items)) }
 {
     if agents || perfect {
-        return Ok(list_stable_choices(alloc, agents, perfect, tree)?);
+        return Ok(list_passing_choices(alloc, agents, perfect, tree)?);
     }
     let reduced = reduce(alloc, tree)?;
     Ok(list_pure_behaviours(alloc, tree, &reduced)?)

@@ -77,11 +77,11 @@ fn compute<R: Threads + Sync, I: Inputs, G: Gate>(
             workers,
         } => make(rt, alloc, number, rows, columns, workers, gate),
         Settings::Convert {
-            html,
+            layout,
             row,
             column,
             file,
-        } => convert(alloc, html, row, column, file, inputs),
+        } => convert(alloc, layout, row, column, file, inputs),
         Settings::Check {
             strategic,
             game,
@@ -165,10 +165,10 @@ pub fn refuse<E: Sink>(alloc: Global, err: &mut E, refusal: Refusal) -> u8
 
 /// Does all that the program does, and answers the status with which it ends.
 ///
-/// `words` are the words after the program's own name. The input that they name is selected and read to its
-/// end, or to byte 16,777,217; the whole text is computed; only then it is written to `out` and flushed. A
-/// refusal before that writes nothing to `out`, and each refusal writes one line to `err`. A fault of `err`
-/// ends the writing to `err` and changes no status.
+/// `words` are the words after the program's own name. The inputs that they name are selected one after
+/// another, and each is read to its end, or to byte 16,777,217; the whole text is computed; only then it is
+/// written to `out` and flushed. A refusal ends this where it comes: before the writing nothing goes to `out`,
+/// and each refusal writes one line to `err`. A fault of `err` ends the writing to `err` and changes no status.
 pub fn run<R: Threads + Sync, I: Inputs, K: Sink, E: Sink, G: Gate>(
     rt: &R,
     alloc: Global,

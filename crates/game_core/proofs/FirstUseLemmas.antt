@@ -1,7 +1,7 @@
 -- Indices that are numbered by first use, told one after another.
-use Rattle.std.proofs.Common.{ℕ, zero, suc, ◌<◌, ◌≡◌, ap, ◌⊎◌, inl, inr, Option, Some, None, List, [], ◌∷◌, slice_get, arith}
+use Rattle.std.proofs.Common.{ℕ, zero, suc, ◌<◌, ◌≡◌, ◌∙◌, ap, ◌⊎◌, inl, inr, Option, Some, None, List, [], ◌∷◌, slice_get, arith}
 use Rattle.std.proofs.lemmas.Bool.{cases_lt}
-use Rattle.std.proofs.lemmas.Option.{none-some, same_Some}
+use Rattle.std.proofs.lemmas.Option.{get_or_from_slice_get, none-some, same_Some, slice_get-get_or, slice_get_within}
 use Rattle.game_core.specs.Tree.{AreInOrderOfFirstUse}
 
 -- Where the numbers below n were used before, each index is one of them, or the next.
@@ -37,6 +37,19 @@ used_before n (Some i ∷ names) (inr new) zero s r is below = let same = same_S
 used_before n (Some i ∷ names) (inl old) (suc k) s r is below = one_further n (Some i) names k r (used_before n names old.1 k s r is below)
 used_before n (Some i ∷ names) (inr new) (suc k) s r is below = first_use n i names k r new.0 (used_before (suc n) names new.1 k s r is below)
 
+-- names are in order where a name that is there comes after one of each smaller index
+pub in_order-names : (names : List (Option ℕ)) → ((k s r : ℕ) → slice_get names k ≡ Some (Some s) → r < s → (l : ℕ) × (l < k) × (slice_get names l ≡ Some (Some r))) → AreInOrderOfFirstUse names
+in_order-names names h k s r within is below =
+    let found = h k s r (slice_get-get_or names k None within ∙ ap Some is) below in
+    (found.0, found.1, get_or_from_slice_get names found.0 (Some r) None found.2)
+
+-- and then it does
+pub in_order-name : (names : List (Option ℕ)) → AreInOrderOfFirstUse names → (k s r : ℕ) → slice_get names k ≡ Some (Some s) → r < s → (l : ℕ) × (l < k) × (slice_get names l ≡ Some (Some r))
+in_order-name names h k s r is below =
+    let within = slice_get_within names k (Some s) is in
+    let found = h k s r within (get_or_from_slice_get names k (Some s) None is) below in
+    (found.0, found.1, slice_get-get_or names found.0 None (omega (arith, found.1, within)) ∙ ap Some found.2)
+
 -- what is numbered from 0 on is in order
 pub in_order : (names : List (Option ℕ)) → AreNumberedFrom 0 names → AreInOrderOfFirstUse names
-in_order names h k s r is below = elim (used_before 0 names h k s r is below) [ inl none ↦ absurd (omega (arith, none)) | inr found ↦ found ]
+in_order names h = in_order-names names (λ k s r is below. elim (used_before 0 names h k s r is below) [ inl none ↦ absurd (omega (arith, none)) | inr found ↦ found ])

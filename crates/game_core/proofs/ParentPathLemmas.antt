@@ -1,11 +1,12 @@
 -- In prefix order a node's parent is the node before it, or stands above that; so a subtree is one run of numbers.
 use Rattle.std.proofs.Common.{◌≡◌, ◌<◌, ◌≤◌, ◌+◌, ◌-◌, ◌∙◌, inl, inr, sym, ap, subst, refl, ℕ, zero, suc, Some, None, List, [], ◌∷◌, ◌++◌, length, map, get_or, arith}
+use Rattle.std.specs.Prelude.{unwrap_or}
 use Rattle.std.proofs.lemmas.Bool.{cases_eq}
 use Rattle.game_theory.specs.Trees.{Tree, IsAbove, IsTree, IsWithin}
 use Rattle.game_theory.proofs.SubtreeOrderLemmas.{within-parent, within-trans}
 use Rattle.game_core.specs.declared.tree.Node.{Node}
-use Rattle.game_core.specs.Tree.{GameTree, IsGameTree, InformationSet, OpenBranch, AreInPrefixOrder, action_count, branches_after}
-use Rattle.game_core.specs.TreeGame.{game_of_tree, or_zero}
+use Rattle.game_core.specs.Tree.{GameTree, IsGameTree, InformationSet, OpenBranch, AreInPrefixOrder, action_count, branches_from}
+use Rattle.game_core.specs.TreeGame.{game_of_tree}
 
 -- Open branches after node m: the first is one of a node on the path to m, and each further one of a node on the path to the node of
 -- the branch before it.
@@ -19,19 +20,19 @@ above-child t m k [] later is h = tt
 above-child t m k (branch ∷ branches) later is h = (h.0, h.1, (suc h.2.0, (later, subst (IsAbove t h.2.0 h.0) (sym is) h.2.1)), h.3)
 
 -- and after branches of the node's own
-above-own : (t : Tree) (k a n : ℕ) (branches : List OpenBranch) → AreAbove t k branches → AreAbove t k (branches_after (Some k) a n ++ branches)
+above-own : (t : Tree) (k a n : ℕ) (branches : List OpenBranch) → AreAbove t k branches → AreAbove t k (branches_from (Some k) a n ++ branches)
 above-own t k a zero branches h = h
 above-own t k a (suc n) branches h = (k, refl, (0, refl), above-own t k (a + 1) n branches h)
 
 -- nodes in prefix order, numbered from suc m on
 parent-above :
     (t : Tree) (sets : List InformationSet) (m : ℕ) (nodes : List Node) (branches : List OpenBranch) → AreInPrefixOrder sets (suc m) nodes branches [] → AreAbove t m branches
-    → ((j : ℕ) → j < length nodes → t.parent (suc m + j) ≡ or_zero (get_or (map (λ node. node.parent) nodes) j None)) → (j : ℕ) → j < length nodes → IsWithin t (t.parent (suc m + j)) (m + j)
+    → ((j : ℕ) → j < length nodes → t.parent (suc m + j) ≡ unwrap_or (get_or (map (λ node. node.parent) nodes) j None) 0) → (j : ℕ) → j < length nodes → IsWithin t (t.parent (suc m + j)) (m + j)
 parent-above t sets m [] branches order above reads j below = absurd (omega arith)
 parent-above t sets m (node ∷ nodes) [] order above reads j below = absurd order
 parent-above t sets m (node ∷ nodes) (branch ∷ branches) order above reads j below =
     let here : suc m ≡ suc m + 0 = omega arith in
-    let is : t.parent (suc m) ≡ above.0 = ap t.parent here ∙ reads 0 (omega arith) ∙ ap or_zero (ap (λ (p : OpenBranch). p.0) order.0 ∙ above.1) in
+    let is : t.parent (suc m) ≡ above.0 = ap t.parent here ∙ reads 0 (omega arith) ∙ ap (λ o. unwrap_or o 0) (ap (λ (p : OpenBranch). p.0) order.0 ∙ above.1) in
     let next = above-own t (suc m) 0 (action_count sets node.set) branches (above-child t above.0 (suc m) branches (omega arith) is above.3) in
     go is (parent-above t sets (suc m) nodes _ order.1 next (λ i l. let same : suc (suc m) + i ≡ suc m + suc i = omega arith in ap t.parent same ∙ reads (suc i) (omega arith))) j below
   where
@@ -48,7 +49,7 @@ parent-above t sets m (node ∷ nodes) (branch ∷ branches) order above reads j
 -- the same after the root
 after_root :
     (t : Tree) (sets : List InformationSet) (nodes : List Node) → AreInPrefixOrder sets 0 nodes ((None, 0) ∷ []) []
-    → ((j : ℕ) → j < length nodes → t.parent j ≡ or_zero (get_or (map (λ node. node.parent) nodes) j None)) → (j : ℕ) → suc j < length nodes → IsWithin t (t.parent (suc j)) j
+    → ((j : ℕ) → j < length nodes → t.parent j ≡ unwrap_or (get_or (map (λ node. node.parent) nodes) j None) 0) → (j : ℕ) → suc j < length nodes → IsWithin t (t.parent (suc j)) j
 after_root t sets [] order reads j below = absurd (omega arith)
 after_root t sets (node ∷ nodes) order reads j below =
     let one : 1 + j ≡ suc j = omega arith in

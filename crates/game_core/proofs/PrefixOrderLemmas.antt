@@ -2,7 +2,7 @@
 use Rattle.std.proofs.Common.{◌≡◌, ◌<◌, ◌≤◌, ◌+◌, ◌∙◌, sym, ap, subst, refl, ◌⊎◌, inl, inr, ℕ, zero, suc, Option, Some, None, List, [], ◌∷◌, ◌++◌, length, map, get_or, arith}
 use Rattle.std.proofs.lemmas.Bool.{cases_order}
 use Rattle.game_core.specs.declared.tree.Node.{Node}
-use Rattle.game_core.specs.Tree.{InformationSet, OpenBranch, IsBelow, action_count, branches_after, AreInPrefixOrder}
+use Rattle.game_core.specs.Tree.{InformationSet, OpenBranch, IsBelow, action_count, branches_from, AreInPrefixOrder}
 
 -- the place at which a node hangs
 abbrev pub branch_at : List Node → ℕ → OpenBranch
@@ -35,7 +35,7 @@ IsAmong-append p (q ∷ ps) qs (inl here) = inl (inl here)
 IsAmong-append p (q ∷ ps) qs (inr later) = elim (IsAmong-append p ps qs later) [ inl left ↦ inl (inr left) | inr right ↦ inr right ]
 
 -- each action has its place
-action_place : (node a n i : ℕ) → i < n → IsAmong (Some node, a + i) (branches_after (Some node) a n)
+action_place : (node a n i : ℕ) → i < n → IsAmong (Some node, a + i) (branches_from (Some node) a n)
 action_place node a zero i below = absurd (omega arith)
 action_place node a (suc n) zero below = inl (ap (λ b. (Some node, b)) (omega arith))
 action_place node a (suc n) (suc i) below =
@@ -43,7 +43,7 @@ action_place node a (suc n) (suc i) below =
     inr (rw later at (action_place node (a + 1) n i (omega arith)))
 
 -- a place of one of a node's actions
-place_is : (p : OpenBranch) (node a n : ℕ) → IsAmong p (branches_after (Some node) a n) → (p.0 ≡ Some node) × (a ≤ p.1) × (p.1 < a + n)
+place_is : (p : OpenBranch) (node a n : ℕ) → IsAmong p (branches_from (Some node) a n) → (p.0 ≡ Some node) × (a ≤ p.1) × (p.1 < a + n)
 place_is p node a zero h = absurd h
 place_is p node a (suc n) (inl here) = let branch : p.1 ≡ a = ap (λ q. q.1) here in (ap (λ q. q.0) here, omega arith, omega arith)
 place_is p node a (suc n) (inr later) = let h = place_is p node (a + 1) n later in (h.0, omega arith, omega arith)
@@ -55,7 +55,7 @@ taken sets k [] (q ∷ free) p h among = cc
 taken sets k (node ∷ nodes) [] p h among = absurd among
 taken sets k (node ∷ nodes) (q ∷ free) p h (inl here) = (0, omega arith, h.0 ∙ sym here)
 taken sets k (node ∷ nodes) (q ∷ free) p h (inr later) =
-    let r = taken sets (suc k) nodes (branches_after (Some k) 0 (action_count sets node.set) ++ free) p h.1 (IsAmong-right p _ free later) in
+    let r = taken sets (suc k) nodes (branches_from (Some k) 0 (action_count sets node.set) ++ free) p h.1 (IsAmong-right p _ free later) in
     (suc r.0, omega arith, r.2)
 
 -- each action of each node leads to a later node
@@ -65,10 +65,10 @@ child sets k (node ∷ nodes) [] i a h inside action = absurd h
 child sets k (node ∷ nodes) (q ∷ free) zero a h inside action =
     let start : 0 + a ≡ a = omega arith in
     let first = rw start at (action_place k 0 (action_count sets node.set) a action) in
-    let r = taken sets (suc k) nodes (branches_after (Some k) 0 (action_count sets node.set) ++ free) (Some k, a) h.1 (IsAmong-left _ _ free first) in
+    let r = taken sets (suc k) nodes (branches_from (Some k) 0 (action_count sets node.set) ++ free) (Some k, a) h.1 (IsAmong-left _ _ free first) in
     (suc r.0, omega arith, omega arith, r.2 ∙ ap (λ n. (Some n, a)) (omega arith))
 child sets k (node ∷ nodes) (q ∷ free) (suc i) a h inside action =
-    let r = child sets (suc k) nodes (branches_after (Some k) 0 (action_count sets node.set) ++ free) i a h.1 (omega arith) action in
+    let r = child sets (suc k) nodes (branches_from (Some k) 0 (action_count sets node.set) ++ free) i a h.1 (omega arith) action in
     (suc r.0, omega arith, omega arith, r.3 ∙ ap (λ n. (Some n, a)) (omega arith))
 
 -- node j hangs at one of these places or at an action of a node before it
@@ -83,7 +83,7 @@ hangs sets k (node ∷ nodes) (q ∷ free) rest zero h inside = inl (inl h.0)
 hangs sets k (node ∷ nodes) (q ∷ free) rest (suc j) h inside = one_less (hangs sets (suc k) nodes (places ++ free) rest j h.1 (omega arith))
   where
     places : List OpenBranch
-    places = branches_after (Some k) 0 (action_count sets node.set)
+    places = branches_from (Some k) 0 (action_count sets node.set)
 
     one_less : Hangs sets (suc k) nodes (places ++ free) j → Hangs sets k (node ∷ nodes) (q ∷ free) (suc j)
     one_less (inl among) = elim (IsAmong-append _ places free among) [
@@ -104,7 +104,7 @@ AreDistinct-append (p ∷ ps) qs first second apart =
     (λ among. elim (IsAmong-append p ps qs among) [ inl left ↦ first.0 left | inr right ↦ apart p (inl refl) right ], AreDistinct-append ps qs first.1 second (λ q left right. apart q (inr left) right))
 
 -- the places of a node's actions differ
-AreDistinct-places : (node a n : ℕ) → AreDistinct (branches_after (Some node) a n)
+AreDistinct-places : (node a n : ℕ) → AreDistinct (branches_from (Some node) a n)
 AreDistinct-places node a zero = tt
 AreDistinct-places node a (suc n) = (λ among. let own_is = place_is _ node (a + 1) n among in absurd (omega arith), AreDistinct-places node (a + 1) n)
 
@@ -122,15 +122,15 @@ within_more k None h = h
 within_more k (Some n) h = omega arith
 
 -- the places that are free after a node differ
-AreDistinct-more : (k n : ℕ) (free : List OpenBranch) → AreDistinct free → AreBefore k free → AreDistinct (branches_after (Some k) 0 n ++ free)
-AreDistinct-more k n free distinct before = AreDistinct-append (branches_after (Some k) 0 n) free (AreDistinct-places k 0 n) distinct apart
+AreDistinct-more : (k n : ℕ) (free : List OpenBranch) → AreDistinct free → AreBefore k free → AreDistinct (branches_from (Some k) 0 n ++ free)
+AreDistinct-more k n free distinct before = AreDistinct-append (branches_from (Some k) 0 n) free (AreDistinct-places k 0 n) distinct apart
   where
-    apart : (p : OpenBranch) → IsAmong p (branches_after (Some k) 0 n) → IsAmong p free → ⊥
+    apart : (p : OpenBranch) → IsAmong p (branches_from (Some k) 0 n) → IsAmong p free → ⊥
     apart p own other = let below = within k k p.0 (before p other) (place_is p k 0 n own).0 in absurd (omega arith)
 
 -- the places that are free after a node are at nodes up to it
-AreBefore-more : (k n : ℕ) (free : List OpenBranch) → AreBefore k free → AreBefore (suc k) (branches_after (Some k) 0 n ++ free)
-AreBefore-more k n free before p among = elim (IsAmong-append p (branches_after (Some k) 0 n) free among) [
+AreBefore-more : (k n : ℕ) (free : List OpenBranch) → AreBefore k free → AreBefore (suc k) (branches_from (Some k) 0 n ++ free)
+AreBefore-more k n free before p among = elim (IsAmong-append p (branches_from (Some k) 0 n) free among) [
   | inl own ↦ subst (IsBelow (suc k)) (sym (place_is p k 0 n own).0) (omega arith)
   | inr other ↦ within_more k p.0 (before p other)
 ]
@@ -143,7 +143,7 @@ differ sets k (node ∷ nodes) (q ∷ free) rest i zero h distinct before less i
 differ sets k (node ∷ nodes) (q ∷ free) rest zero (suc j) h distinct before less inside same = later (hangs sets (suc k) nodes (places ++ free) rest j h.1 (omega arith))
   where
     places : List OpenBranch
-    places = branches_after (Some k) 0 (action_count sets node.set)
+    places = branches_from (Some k) 0 (action_count sets node.set)
 
     -- node k's place is at a node before it
     low : (n : ℕ) → (branch_at nodes j).0 ≡ Some n → n < k
@@ -156,7 +156,7 @@ differ sets k (node ∷ nodes) (q ∷ free) rest zero (suc j) h distinct before 
     ]
     later (inr r) = let below = low _ r.2 in absurd (omega arith)
 differ sets k (node ∷ nodes) (q ∷ free) rest (suc i) (suc j) h distinct before less inside same =
-    differ sets (suc k) nodes (branches_after (Some k) 0 (action_count sets node.set) ++ free) rest i j h.1 (AreDistinct-more k _ free distinct.1 apart) (AreBefore-more k _ free apart) (omega arith) (omega arith) same
+    differ sets (suc k) nodes (branches_from (Some k) 0 (action_count sets node.set) ++ free) rest i j h.1 (AreDistinct-more k _ free distinct.1 apart) (AreBefore-more k _ free apart) (omega arith) (omega arith) same
   where
     apart : AreBefore k free
     apart p among = before p (inr among)
@@ -170,7 +170,7 @@ branch_at-same sets k (x ∷ xs) [] free rest rest_too h g many alike j below = 
 branch_at-same sets k (x ∷ xs) (y ∷ ys) [] rest rest_too h g many alike j below = absurd h
 branch_at-same sets k (x ∷ xs) (y ∷ ys) (branch ∷ free) rest rest_too h g many alike zero below = h.0 ∙ sym g.0
 branch_at-same sets k (x ∷ xs) (y ∷ ys) (branch ∷ free) rest rest_too h g many alike (suc j) below =
-    let other = subst (λ set. AreInPrefixOrder sets (suc k) ys (branches_after (Some k) 0 (action_count sets set) ++ free) rest_too) (sym (alike 0 (omega arith))) g.1 in
+    let other = subst (λ set. AreInPrefixOrder sets (suc k) ys (branches_from (Some k) 0 (action_count sets set) ++ free) rest_too) (sym (alike 0 (omega arith))) g.1 in
     branch_at-same sets (suc k) xs ys _ rest rest_too h.1 other (omega (arith, many)) (λ i few. alike (suc i) (omega (arith, few))) j (omega (arith, below))
 
 -- the nodes of a tree: its root hangs nowhere

@@ -1,17 +1,18 @@
 -- What a tree stands for is a game tree.
 use Rattle.std.proofs.Common.{◌≡◌, ◌<◌, ◌∙◌, sym, ap, subst, refl, ℕ, zero, suc, Option, Some, None, List, [], ◌∷◌, All, length, map, get_or, slice_get, arith}
+use Rattle.std.specs.Prelude.{unwrap_or}
 use Rattle.std.proofs.lemmas.List.{length-map}
 use Rattle.std.proofs.lemmas.List.Elements.{All-get_or, All-map}
-use Rattle.std.proofs.lemmas.Option.{slice_get-get_or, get_or_from_slice_get, same_Some}
+use Rattle.std.proofs.lemmas.Option.{slice_get-get_or, same_Some}
 use Rattle.lists.proofs.ElementLemmas.{element}
-use Rattle.rational.specs.Rational.{◌≤ℚ◌, zero_ℚ, one_ℚ}
-use Rattle.rational.specs.Sum.{sum_to}
+use Rattle.rational.specs.Rational.{one_ℚ}
+use Rattle.rational.specs.Sum.{sum_to, IsDistribution}
 use Rattle.game_theory.specs.FirstNodes.{AreNumberedByFirstNodes}
-use Rattle.game_theory.specs.Trees.{IsTree as is_game_tree, IsChild, IsChanceDistribution}
+use Rattle.game_theory.specs.Trees.{IsTree as is_game_tree, IsChild}
 use Rattle.game_theory.proofs.IndexLemmas.{numbers_with-tell}
 use Rattle.game_core.specs.declared.tree.Action.{Action}
-use Rattle.game_core.specs.Tree.{GameTree, IsGameTree, InformationSet, IsBelow, AreChances, ProbabilitiesFit, SetFits, action_count, probability_at}
-use Rattle.game_core.specs.TreeGame.{game_of_tree, or_zero}
+use Rattle.game_core.specs.Tree.{GameTree, IsGameTree, InformationSet, IsBelow, ProbabilitiesFit, SetFits, action_count, probability_at}
+use Rattle.game_core.specs.TreeGame.{game_of_tree}
 use Rattle.game_core.proofs.PrefixOrderLemmas.{child_at, hangs_at, branch_at, root, same_node, within}
 
 -- a part of the element at a place
@@ -21,7 +22,7 @@ part_of f (y ∷ xs) zero x d is = ap f (same_Some y x is)
 part_of f (y ∷ xs) (suc k) x d is = part_of f xs k x d is
 
 -- what holds of each element's part holds of the part at a place
-part_has : {X Y : Type 0} (P : Y → Type 0) (f : X → Y) (xs : List X) (k : ℕ) (d : Y) → All (λ x. P (f x)) xs → k < length xs → P (get_or (map f xs) k d)
+pub part_has : {X Y : Type 0} (P : Y → Type 0) (f : X → Y) (xs : List X) (k : ℕ) (d : Y) → All (λ x. P (f x)) xs → k < length xs → P (get_or (map f xs) k d)
 part_has P f xs k d h below = All-get_or P (map f xs) k d (rw length-map below) (All-map P f xs h)
 
 -- a node with an action has a set
@@ -30,7 +31,7 @@ some_set sets None a below = absurd (omega arith)
 some_set sets (Some s) a below = (s, refl, below)
 
 -- probabilities that are an owner's, where chance is the owner
-chances : (owner : Option ℕ) (actions : List Action) → ProbabilitiesFit owner actions → owner ≡ None → AreChances actions
+chances : (owner : Option ℕ) (actions : List Action) → ProbabilitiesFit owner actions → owner ≡ None → IsDistribution (length actions) (probability_at actions)
 chances owner actions h is = subst (λ o. ProbabilitiesFit o actions) is h
 
 -- the set at a place fits
@@ -41,11 +42,11 @@ set_fits t valid s below = let found = element t.sets s below in (found.0, found
 child_place : (t : GameTree) → IsGameTree t → (k a c : ℕ) → IsChild (game_of_tree t) k a c → branch_at t.nodes c ≡ (Some k, a)
 child_place t valid k a c h =
     let at_node = (hangs_at t.sets t.nodes valid.in_prefix_order c h.0 h.1).2 in
-    let parent = ap Some (sym (ap or_zero at_node) ∙ h.2) in
+    let parent = ap Some (sym (ap (λ o. unwrap_or o 0) at_node) ∙ h.2) in
     rw (at_node ∙ parent, h.3) refl
 
 -- the probabilities of chance at a set
-lottery : (t : GameTree) → IsGameTree t → (s : ℕ) → s < length t.sets → (game_of_tree t).owner s ≡ None → IsChanceDistribution (game_of_tree t) s
+lottery : (t : GameTree) → IsGameTree t → (s : ℕ) → s < length t.sets → (game_of_tree t).owner s ≡ None → IsDistribution ((game_of_tree t).actions s) ((game_of_tree t).chance s)
 lottery t valid s below chance =
     let set = set_fits t valid s below in
     let fits = chances _ _ set.2.probabilities (sym (part_of (λ set. set.owner) t.sets s set.0 None set.1) ∙ chance) in
@@ -53,7 +54,7 @@ lottery t valid s below chance =
     let actions = part_of (λ set. set.actions) t.sets s set.0 [] set.1 in
     let sum : sum_to (length set.0.actions) (probability_at (get_or (map (λ set. set.actions) t.sets) s [])) ≡ one_ℚ = rw actions fits.sum_is_one in
     record {
-      not_negative = λ a action. rw actions (part_has (λ q. zero_ℚ ≤ℚ q) (λ action. action.prob) set.0.actions a zero_ℚ fits.not_negative (rw count at action));
+      not_negative = λ a action. rw actions (fits.not_negative a (rw count at action));
       sum_is_one = rw count sum;
     }
 
@@ -68,18 +69,14 @@ game_tree t valid =
       some_action = λ s below. let set = set_fits t valid s below in rw (part_of (λ set. length set.actions) t.sets s set.0 0 set.1) set.2.some_action;
       after_parent = λ c later inside. let place = hangs_at t.sets t.nodes order c later inside in rw place.2 place.1;
       led_to = λ c later inside. let place = hangs_at t.sets t.nodes order c later inside in rw place.2 (some_set t.sets _ _ place.3);
-      some_child = λ k s a inside is action. let c = child_at t.sets t.nodes order k a inside (rw is action) in (c.0, (omega arith, c.2, ap (λ p. or_zero p.0) c.3, ap (λ p. p.1) c.3));
+      some_child = λ k s a inside is action. let c = child_at t.sets t.nodes order k a inside (rw is action) in (c.0, (omega arith, c.2, ap (λ p. unwrap_or p.0 0) c.3, ap (λ p. p.1) c.3));
       one_child = λ k a c d first second. same_node t.sets t.nodes order c d first.1 second.1 (child_place t valid k a c first ∙ sym (child_place t valid k a d second));
       chance_distributions = lottery t valid;
     }
 
 -- and its sets are numbered by their first nodes
 pub numbered_by_first_nodes : (t : GameTree) → IsGameTree t → AreNumberedByFirstNodes (game_of_tree t)
-numbered_by_first_nodes t valid k s r inside is below =
-    let names = map (λ node. node.set) t.nodes in
-    let here = slice_get-get_or names k None (rw length-map inside) ∙ ap Some is in
-    let earlier = valid.sets_in_order k s r here below in
-    (earlier.0, earlier.1, get_or_from_slice_get names earlier.0 (Some r) None earlier.2)
+numbered_by_first_nodes t valid k s r inside is below = valid.sets_in_order k s r (rw length-map inside) is below
 
 -- each set of a tree has a node
 pub set-used : (t : GameTree) → IsGameTree t → (r : ℕ) → r < length t.sets → (j : ℕ) × (j < length t.nodes) × ((game_of_tree t).set j ≡ Some r)

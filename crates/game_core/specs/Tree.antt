@@ -2,8 +2,9 @@
 -- Kuhn 1953.
 use Rattle.std.specs.Prelude.{ℕ, zero, suc, ◌<◌, ◌≤◌, ◌^◌, ◌≡◌, List, [], ◌∷◌, ◌++◌, length, map, slice_get, slice_index_or, All, IfSome, Option, Some, None}
 use Rattle.std.specs.List.{range_with_len}
-use Rattle.rational.specs.Rational.{ℚ, ◌≤ℚ◌, zero_ℚ, one_ℚ}
-use Rattle.rational.specs.Sum.{entry_at, sum_to}
+use Rattle.rational.specs.Rational.{ℚ, zero_ℚ}
+use Rattle.rational.specs.Sum.{entry_at, IsDistribution}
+use Rattle.game_theory.specs.FirstNodes.{AreNumberedByFirstUse}
 use Rattle.game_theory.specs.OwnSets.{places_with}
 use Rattle.game_core.specs.declared.tree.Action.{Action}
 use Rattle.game_core.specs.declared.tree.Kind.{Kind}
@@ -32,6 +33,10 @@ pub record GameTree : Type 0 where
   pub sets : List InformationSet
   pub outcomes : List TreeOutcome
 
+-- the number that a file gives set s; 0 where there is no such set
+abbrev pub label_of : GameTree → ℕ → ℕ
+label_of t s = slice_index_or (map (λ set. set.label) t.sets) s 0
+
 -- the most nodes of a tree, and the most edges from the root to a node
 abbrev pub most_nodes : ℕ
 most_nodes = 65536
@@ -49,8 +54,8 @@ abbrev pub OpenBranch : Type 0
 OpenBranch = Option ℕ × ℕ
 
 -- the branches of so many actions of a node from one on
-abbrev pub branches_after : Option ℕ → ℕ → ℕ → List OpenBranch
-branches_after parent action n = map (λ a. (parent, a)) (range_with_len action n)
+abbrev pub branches_from : Option ℕ → ℕ → ℕ → List OpenBranch
+branches_from parent action n = map (λ a. (parent, a)) (range_with_len action n)
 
 -- Nodes in prefix order, numbered from k on: each hangs at the first open branch, and the branches of its own actions come
 -- before the others. The rest stays open after the last node.
@@ -58,7 +63,7 @@ abbrev pub AreInPrefixOrder : List InformationSet → ℕ → List Node → List
 AreInPrefixOrder sets k [] free rest = free ≡ rest
 AreInPrefixOrder sets k (node ∷ nodes) [] rest = ⊥
 AreInPrefixOrder sets k (node ∷ nodes) (branch ∷ free) rest =
-    ((node.parent, node.branch) ≡ branch) × AreInPrefixOrder sets (suc k) nodes (branches_after (Some k) 0 (action_count sets node.set) ++ free) rest
+    ((node.parent, node.branch) ≡ branch) × AreInPrefixOrder sets (suc k) nodes (branches_from (Some k) 0 (action_count sets node.set) ++ free) rest
 
 -- node k lies d edges below the root
 abbrev pub LiesBelowRoot : List Node → ℕ → ℕ → Type 0
@@ -93,14 +98,9 @@ members_of nodes s = places_with (λ node. node.set) nodes s
 abbrev pub probability_at : List Action → ℕ → ℚ
 probability_at actions a = entry_at (map (λ action. action.prob) actions) a
 
--- probabilities of chance: not negative, with the sum 1
-pub record AreChances (actions : List Action) : Type 0 where
-  pub not_negative : All (λ action. zero_ℚ ≤ℚ action.prob) actions
-  pub sum_is_one : sum_to (length actions) (probability_at actions) ≡ one_ℚ
-
--- the actions of a player have no probabilities: 0 stands in their place
+-- the actions of chance have a probability distribution, and those of a player no probabilities: 0 stands in their place
 abbrev pub ProbabilitiesFit : Option ℕ → List Action → Type 0
-ProbabilitiesFit None actions = AreChances actions
+ProbabilitiesFit None actions = IsDistribution (length actions) (probability_at actions)
 ProbabilitiesFit (Some i) actions = All (λ action. action.prob ≡ zero_ℚ) actions
 
 -- set s is chance's or one of the players', has actions, and its members are the nodes that name it
@@ -111,10 +111,9 @@ pub record SetFits (t : GameTree) (s : ℕ) (set : InformationSet) : Type 0 wher
   pub members_are : set.members ≡ members_of t.nodes s
   pub some_member : 0 < length set.members
 
--- Indices that nodes name in turn are numbered by first use: before a node that names one comes, for each smaller one, a node
--- that names it.
+-- indices that nodes name in turn are numbered by first use
 abbrev pub AreInOrderOfFirstUse : List (Option ℕ) → Type 0
-AreInOrderOfFirstUse names = (k s r : ℕ) → slice_get names k ≡ Some (Some s) → r < s → (l : ℕ) × (l < k) × (slice_get names l ≡ Some (Some r))
+AreInOrderOfFirstUse names = AreNumberedByFirstUse (λ k. slice_index_or names k None) (length names)
 
 -- A game tree within the limits, as far as it goes: its nodes stand in prefix order and leave these branches open, and its sets and
 -- outcomes stand in the order in which the nodes first name them.

@@ -354,7 +354,7 @@ pub fn trees_are_game_trees()
     ensures { (t : GameTree) → IsGameTree t → is_game_tree (game_of_tree t) }
 {}
 
-/// Its sets are numbered by their first nodes.
+/// The sets of the game tree that a tree stands for are numbered by their first nodes.
 pub fn sets_are_numbered_by_first_nodes()
     ensures { (t : GameTree) → IsGameTree t → AreNumberedByFirstNodes (game_of_tree t) }
 {}

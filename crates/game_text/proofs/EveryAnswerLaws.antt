@@ -14,8 +14,8 @@ use Rattle.game_text.specs.declared.reading.TextKind.TheVariants.{BadChar, OpenT
 use Rattle.game_text.specs.Digits.{without_leading_zeros, without_trailing_zeros}
 use Rattle.game_text.specs.Laws.{EverySourceHasAnAnswer, EveryTextHasAnAnswer}
 use Rattle.game_text.specs.Numbers.{NumberForm, Fraction, Decimal, IsNumber, IsTooLarge, IsNoNumber, IsWithinLimits, form_value}
-use Rattle.game_text.specs.Reading.{IsNext, is_bare, is_blank, is_letter, after_text}
-use Rattle.game_text.specs.Tokens.{FirstIs, IsBlank, IsFaultAt, AreTokensBefore}
+use Rattle.game_text.specs.Reading.{IsNext, is_bare, is_blank, is_letter, from_closing_quote}
+use Rattle.game_text.specs.Tokens.{FirstIs, IsBlank, BeginsWithFault, AreTokensBefore}
 use Rattle.game_text.proofs.ByteLemmas.{tells_bare}
 use Rattle.game_text.proofs.ByteRunLemmas.{take_blanks, drop_blanks}
 use Rattle.game_text.proofs.NextTokenLemmas.{IsFrontRun, closed_next, open_text, word_next, number_next, number_fault}
@@ -63,10 +63,10 @@ every_text text = by (form_of text) refl
 -- ---- what comes next
 -- a token and the bytes after it come next, or a fault
 abbrev Comes : List ℕ → Type 0
-Comes bytes = ((after : List ℕ) × (token : Token) × IsNext bytes after token) ⊎ ((kind : TextKind) × IsFaultAt bytes kind)
+Comes bytes = ((after : List ℕ) × (token : Token) × IsNext bytes after token) ⊎ ((kind : TextKind) × BeginsWithFault bytes kind)
 
 -- after a quote
-text_comes : (bytes closing : List ℕ) → after_text bytes ≡ closing → Comes (34 ∷ bytes)
+text_comes : (bytes closing : List ℕ) → from_closing_quote bytes ≡ closing → Comes (34 ∷ bytes)
 text_comes bytes [] e = inr (OpenText, open_text bytes [] (sym e) (omega arith))
 text_comes bytes (c ∷ rest) e = inl (rest, _, closed_next bytes rest c e)
 
@@ -114,7 +114,7 @@ comes b bytes dark = by (cases_eq b 123) (cases_eq b 125) (cases_eq b 44) (cases
     by (inl e) _ _ _ = mark Left (record { front = b ∷ []; parts = refl; some = omega arith; is_token = ap (λ a. a ∷ []) e })
     by (inr left) (inl e) _ _ = mark Right (record { front = b ∷ []; parts = refl; some = omega arith; is_token = ap (λ a. a ∷ []) e })
     by (inr left) (inr right) (inl e) _ = mark Comma (record { front = b ∷ []; parts = refl; some = omega arith; is_token = ap (λ a. a ∷ []) e })
-    by (inr left) (inr right) (inr comma) (inl e) = rw e (text_comes bytes (after_text bytes) refl)
+    by (inr left) (inr right) (inr comma) (inl e) = rw e (text_comes bytes (from_closing_quote bytes) refl)
     by (inr left) (inr right) (inr comma) (inr quote) = bare left right comma quote (is_bare b) refl
 
 -- ---- all tokens
@@ -125,7 +125,7 @@ record FaultAfter (from : ℕ) (bytes : List ℕ) : Type 0 where
   kind : TextKind
   are_tokens : AreTokensBefore from bytes tokens rest
   within : length rest ≤ length bytes
-  is_fault : IsFaultAt rest kind
+  is_fault : BeginsWithFault rest kind
 
 -- tokens to the end, or a fault after some
 abbrev Answered : ℕ → List ℕ → Type 0

@@ -6,7 +6,7 @@ use Rattle.game_core.specs.declared.token.Token.{Token}
 use Rattle.game_core.specs.declared.token.Token.TheVariants.{Left, Right, Comma, Text, Word, Number}
 use Rattle.game_text.specs.declared.reading.TextKind.{TextKind}
 use Rattle.game_text.specs.declared.reading.TextKind.TheVariants.{BadChar, OpenText, BadNumber, NumberTooLarge}
-use Rattle.game_text.specs.Tokens.{FirstIs, BeginsNoToken, IsBlank, IsLetter, IsRun, IsTokenAt, IsFaultAt}
+use Rattle.game_text.specs.Tokens.{FirstIs, BeginsNoToken, IsBlank, IsLetter, IsRun, IsTokenAt, BeginsWithFault}
 use Rattle.game_text.specs.Reading.{is_blank, is_letter, is_bare}
 use Rattle.game_text.proofs.ByteLemmas.{tells_blank, tells_letter, tells_bare, blank_not_bare, not_bare_no_letter}
 use Rattle.lists.proofs.NumberLemmas.{unequal}
@@ -69,7 +69,7 @@ kind_at-quote [] h = absurd h
 kind_at-quote (b ∷ bytes) h = rw h refl
 
 -- the first byte tells a fault's kind, but for numbers
-pub kind_at-fault : (bytes : List ℕ) (kind : TextKind) → IsFaultAt bytes kind → kind_at bytes ≡ kind_of_fault kind
+pub kind_at-fault : (bytes : List ℕ) (kind : TextKind) → BeginsWithFault bytes kind → kind_at bytes ≡ kind_of_fault kind
 kind_at-fault bytes BadChar h = kind_at-bad_char bytes h
 kind_at-fault bytes OpenText h = kind_at-quote bytes h.0
 kind_at-fault bytes BadNumber h = rw h.2 (kind_at-number h.0 h.1 h.1 h.3 h.4)

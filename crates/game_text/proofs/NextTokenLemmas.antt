@@ -8,15 +8,15 @@ use Rattle.game_text.specs.Numbers.{IsNumber}
 use Rattle.game_core.specs.declared.token.Token.TheVariants.{Text, Word, Number}
 use Rattle.game_text.specs.declared.reading.TextKind.{TextKind}
 use Rattle.game_text.specs.declared.reading.TextKind.TheVariants.{BadChar, OpenText, BadNumber, NumberTooLarge}
-use Rattle.game_text.specs.Tokens.{FirstIs, IsLetter, IsRun, IsFaultAt}
-use Rattle.game_text.specs.Reading.{IsNext, RefusesNumber, is_letter, is_bare, spelled, after_text}
+use Rattle.game_text.specs.Tokens.{FirstIs, IsLetter, IsRun, BeginsWithFault}
+use Rattle.game_text.specs.Reading.{IsNext, RefusesNumber, is_letter, is_bare, spelled, from_closing_quote}
 use Rattle.game_text.proofs.ByteLemmas.{tells_letter}
 use Rattle.game_text.proofs.QuotedLemmas.{text_closes, text_is_open}
 use Rattle.game_text.proofs.ByteRunLemmas.{run_is}
 
 -- ---- texts
 -- a text that a quote closes
-pub closed_next : (bytes rest : List ℕ) (c : ℕ) → after_text bytes ≡ c ∷ rest → IsNext (34 ∷ bytes) rest (Text (spelled bytes))
+pub closed_next : (bytes rest : List ℕ) (c : ℕ) → from_closing_quote bytes ≡ c ∷ rest → IsNext (34 ∷ bytes) rest (Text (spelled bytes))
 closed_next bytes rest c e =
     let h = text_closes bytes rest c e in record {
       front = 34 ∷ (h.inner ++ 34 ∷ []);
@@ -26,14 +26,14 @@ closed_next bytes rest c e =
     }
 
 -- the text that comes next, where a quote closes it
-pub text_next : (bytes closing text : List ℕ) → text ≡ spelled bytes → closing ≡ after_text bytes → 1 ≤ length closing → IsNext (34 ∷ bytes) (take (length closing - 1) (drop 1 closing)) (Text text)
+pub text_next : (bytes closing text : List ℕ) → text ≡ spelled bytes → closing ≡ from_closing_quote bytes → 1 ≤ length closing → IsNext (34 ∷ bytes) (take (length closing - 1) (drop 1 closing)) (Text text)
 text_next bytes [] text t e h = absurd (omega arith)
 text_next bytes (c ∷ rest) text t e h =
     let size : length rest ≤ length (c ∷ rest) - 1 = omega arith in
     rw (t, take_all (length (c ∷ rest) - 1) rest size) (closed_next bytes rest c (sym e))
 
 -- no text comes, where no quote closes it
-pub open_text : (bytes closing : List ℕ) → closing ≡ after_text bytes → length closing < 1 → IsFaultAt (34 ∷ bytes) OpenText
+pub open_text : (bytes closing : List ℕ) → closing ≡ from_closing_quote bytes → length closing < 1 → BeginsWithFault (34 ∷ bytes) OpenText
 open_text bytes [] e h = (refl, λ inner text rest p s. text_is_open bytes inner text rest (sym e) (ap (λ t. drop 1 t) p) s)
 open_text bytes (c ∷ closing) e h = absurd (omega arith)
 
@@ -82,7 +82,7 @@ number_next bytes run rest value h e v = record {
 }
 
 -- a run comes next that is refused
-pub number_fault : (bytes run rest : List ℕ) (kind : TextKind) → IsFrontRun bytes run rest → is_letter (get_or run 0 0) ≡ false → RefusesNumber run kind → IsFaultAt bytes kind
+pub number_fault : (bytes run rest : List ℕ) (kind : TextKind) → IsFrontRun bytes run rest → is_letter (get_or run 0 0) ≡ false → RefusesNumber run kind → BeginsWithFault bytes kind
 number_fault bytes run rest BadChar h e r = absurd r
 number_fault bytes run rest OpenText h e r = absurd r
 number_fault bytes run rest BadNumber h e r = (run, rest, parts_of bytes run rest h, is_run bytes run rest h, begins_with_none run e, r)

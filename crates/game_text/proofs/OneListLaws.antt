@@ -11,10 +11,10 @@ use Rattle.game_core.specs.declared.token.Token.{Token}
 use Rattle.game_core.specs.declared.token.Token.TheVariants.{Left, Right, Comma, Text, Word, Number}
 use Rattle.game_text.specs.declared.reading.TextKind.{TextKind}
 use Rattle.game_text.specs.declared.reading.TextKind.TheVariants.{BadChar, OpenText, BadNumber, NumberTooLarge}
-use Rattle.game_text.specs.Tokens.{FirstIs, IsBlank, IsRun, IsTokenAt, IsFaultAt, AreTokens, AreTokensBefore, IsFirstFault}
+use Rattle.game_text.specs.Tokens.{FirstIs, IsBlank, IsRun, IsTokenAt, BeginsWithFault, AreTokens, AreTokensBefore, IsFirstFault}
 use Rattle.game_text.specs.declared.reading.TextFault.{TextFault}
 use Rattle.game_text.specs.declared.reading.TextStop.TheVariants as text_stop
-use Rattle.game_text.specs.Reading.{is_bare, spelled, after_text}
+use Rattle.game_text.specs.Reading.{is_bare, spelled, from_closing_quote}
 use Rattle.game_text.specs.Stops.{tokens_of}
 use Rattle.game_text.proofs.FirstByteLemmas.{kind_at, kind_of_fault, kind_at-token, kind_at-fault, kind_no_blank}
 use Rattle.game_text.proofs.QuotedLemmas.{spelled-text}
@@ -50,7 +50,7 @@ text_once front back again following text other h k e =
     let inside : h.0 ++ 34 ∷ back ≡ k.0 ++ 34 ∷ following = ap (λ t. drop 1 t) (sym one ∙ e ∙ two) in
     let first = spelled-text h.0 text back h.2 in
     let second = spelled-text k.0 other following k.2 in
-    let same : back ≡ following = ap (λ t. drop 1 t) (sym first.1 ∙ ap after_text inside ∙ second.1) in
+    let same : back ≡ following = ap (λ t. drop 1 t) (sym first.1 ∙ ap from_closing_quote inside ∙ second.1) in
     let fronts : front ≡ again = append_cancel_right front again following (let f : front ++ following ≡ front ++ back = rw same refl in f ∙ e) in
     (fronts, same, sym first.0 ∙ ap spelled inside ∙ second.0)
 
@@ -115,7 +115,7 @@ fault_kind BadNumber = (omega arith, λ e. omega arith, omega arith)
 fault_kind NumberTooLarge = (omega arith, λ e. omega arith, omega arith)
 
 -- a token of this kind is no fault of this kind
-token_no_fault : (rest front back : List ℕ) (token : Token) (kind : TextKind) → (token_parts token).0 ≡ kind_of_fault kind → rest ≡ front ++ back → IsTokenAt front back token → IsFaultAt rest kind → ⊥
+token_no_fault : (rest front back : List ℕ) (token : Token) (kind : TextKind) → (token_parts token).0 ≡ kind_of_fault kind → rest ≡ front ++ back → IsTokenAt front back token → BeginsWithFault rest kind → ⊥
 token_no_fault rest front back (Text text) OpenText i e h k =
     k.1 h.0 text back (e ∙ ap (λ t. t ++ back) h.1 ∙ ap (λ t. 34 ∷ t) (append_assoc h.0 (34 ∷ []) back)) h.2
 token_no_fault rest front back (Number value) BadNumber i e h k =
@@ -129,7 +129,7 @@ token_no_fault rest front back (Number value) NumberTooLarge i e h k =
 token_no_fault rest front back token kind i e h k = omega (arith, fault_kind kind)
 
 -- at a fault
-fault_comes : (rest : List ℕ) (kind : TextKind) → IsFaultAt rest kind → ComesNoToken rest
+fault_comes : (rest : List ℕ) (kind : TextKind) → BeginsWithFault rest kind → ComesNoToken rest
 fault_comes rest kind h =
     let i = kind_at-fault rest kind h in record {
       no_blank = kind_no_blank rest (λ k. omega (arith, i, (fault_kind kind).2));
@@ -137,7 +137,7 @@ fault_comes rest kind h =
     }
 
 -- two faults of one number at one place
-same_fault : (rest : List ℕ) (kind other : TextKind) → kind_of_fault kind ≡ kind_of_fault other → IsFaultAt rest kind → IsFaultAt rest other → kind ≡ other
+same_fault : (rest : List ℕ) (kind other : TextKind) → kind_of_fault kind ≡ kind_of_fault other → BeginsWithFault rest kind → BeginsWithFault rest other → kind ≡ other
 same_fault rest BadChar BadChar i h k = refl
 same_fault rest OpenText OpenText i h k = refl
 same_fault rest BadNumber BadNumber i h k = refl
@@ -153,7 +153,7 @@ same_fault rest NumberTooLarge BadNumber i h k =
 same_fault rest _ _ i h k = cc
 
 -- one fault stands at one place
-fault_once : (rest : List ℕ) (kind other : TextKind) → IsFaultAt rest kind → IsFaultAt rest other → kind ≡ other
+fault_once : (rest : List ℕ) (kind other : TextKind) → BeginsWithFault rest kind → BeginsWithFault rest other → kind ≡ other
 fault_once rest kind other h k =
     same_fault rest kind other (sym (kind_at-fault rest kind h) ∙ kind_at-fault rest other k) h k
 
@@ -219,7 +219,7 @@ pub one_fault : (bytes : List ℕ) (at place : ℕ) (kind other : TextKind) → 
 one_fault bytes at place kind other h k =
     let rests = (tokens_once 0 bytes h.tokens k.tokens h.rest k.rest h.are_tokens k.are_tokens (fault_comes h.rest kind h.is_fault) (fault_comes k.rest other k.is_fault)).1 in
     let sizes : length h.rest ≡ length k.rest = ap length rests in
-    let moved : IsFaultAt h.rest other = rw rests k.is_fault in
+    let moved : BeginsWithFault h.rest other = rw rests k.is_fault in
     (omega (arith, h.is_at, k.is_at), fault_once h.rest kind other h.is_fault moved)
 
 -- ---- one answer

@@ -2,7 +2,7 @@
 use Rattle.std.specs.Prelude.{ℕ, ◌<◌, ◌≡◌, ◌≢◌, Bool, if◌then◌else◌, ◌&&◌, ◌||◌, ◌==◌, nat_le, List, [], ◌∷◌, ◌++◌, length, Option, Some, None}
 use Rattle.std.specs.Char.{is_ascii_digit}
 use Rattle.game_text.specs.Numbers.{IsTooLarge, IsNoNumber}
-use Rattle.game_text.specs.Tokens.{IsTokenAt, IsFaultAt, IsBlank}
+use Rattle.game_text.specs.Tokens.{IsTokenAt, BeginsWithFault, IsBlank}
 use Rattle.game_core.specs.declared.token.Token.{Token}
 use Rattle.game_text.specs.declared.reading.TextKind.{TextKind}
 use Rattle.game_text.specs.declared.reading.TextKind.TheVariants.{BadChar, OpenText, BadNumber, NumberTooLarge}
@@ -31,10 +31,10 @@ spelled (b ∷ []) = if b == 34 then [] else b ∷ []
 spelled (b ∷ c ∷ bytes) = if b == 34 then [] else if b == 92 && c == 34 then 34 ∷ spelled bytes else b ∷ spelled (c ∷ bytes)
 
 -- the bytes from the closing quote on
-abbrev pub after_text : List ℕ → List ℕ
-after_text [] = []
-after_text (b ∷ []) = if b == 34 then b ∷ [] else []
-after_text (b ∷ c ∷ bytes) = if b == 34 then b ∷ c ∷ bytes else if b == 92 && c == 34 then after_text bytes else after_text (c ∷ bytes)
+abbrev pub from_closing_quote : List ℕ → List ℕ
+from_closing_quote [] = []
+from_closing_quote (b ∷ []) = if b == 34 then b ∷ [] else []
+from_closing_quote (b ∷ c ∷ bytes) = if b == 34 then b ∷ c ∷ bytes else if b == 92 && c == 34 then from_closing_quote bytes else from_closing_quote (c ∷ bytes)
 
 -- the bytes begin with this token, and the rest comes after it
 pub record IsNext (bytes rest : List ℕ) (token : Token) : Type 0 where
@@ -45,7 +45,7 @@ pub record IsNext (bytes rest : List ℕ) (token : Token) : Type 0 where
 
 -- reading stops at this offset: the bytes begin with the fault, unless memory ran out
 abbrev pub StopsAt : List ℕ → ℕ → TextStop → Type 0
-StopsAt bytes at (Fault fault) = (fault.at ≡ at) × IsFaultAt bytes fault.kind
+StopsAt bytes at (Fault fault) = (fault.at ≡ at) × BeginsWithFault bytes fault.kind
 StopsAt bytes at Memory = Unit {0}
 
 -- no blank, and no byte that is a token or opens one by itself

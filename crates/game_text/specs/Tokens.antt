@@ -73,12 +73,12 @@ pub record BeginsNoToken (b : ℕ) : Type 0 where
   pub not_bare : ¬ (IsBare b)
 
 -- the bytes begin with a fault of this kind
-abbrev pub IsFaultAt : List ℕ → TextKind → Type 0
-IsFaultAt bytes BadChar = FirstIs BeginsNoToken bytes
-IsFaultAt bytes OpenText =
+abbrev pub BeginsWithFault : List ℕ → TextKind → Type 0
+BeginsWithFault bytes BadChar = FirstIs BeginsNoToken bytes
+BeginsWithFault bytes OpenText =
     FirstIs (λ b. b ≡ 34) bytes × ((inner text rest : List ℕ) → bytes ≡ 34 ∷ inner ++ 34 ∷ rest → SpellsText inner text → ⊥)
-IsFaultAt bytes BadNumber = (run rest : List ℕ) × (bytes ≡ run ++ rest) × IsRun run rest × ¬ (FirstIs IsLetter run) × IsNoNumber run
-IsFaultAt bytes NumberTooLarge = (run rest : List ℕ) × (bytes ≡ run ++ rest) × IsRun run rest × ¬ (FirstIs IsLetter run) × IsTooLarge run
+BeginsWithFault bytes BadNumber = (run rest : List ℕ) × (bytes ≡ run ++ rest) × IsRun run rest × ¬ (FirstIs IsLetter run) × IsNoNumber run
+BeginsWithFault bytes NumberTooLarge = (run rest : List ℕ) × (bytes ≡ run ++ rest) × IsRun run rest × ¬ (FirstIs IsLetter run) × IsTooLarge run
 
 -- the first fault: up to its offset the bytes are tokens and blanks
 pub record IsFirstFault (bytes : List ℕ) (at : ℕ) (kind : TextKind) : Type 0 where
@@ -86,4 +86,4 @@ pub record IsFirstFault (bytes : List ℕ) (at : ℕ) (kind : TextKind) : Type 0
   pub rest : List ℕ
   pub are_tokens : AreTokensBefore 0 bytes tokens rest
   pub is_at : at + length rest ≡ length bytes
-  pub is_fault : IsFaultAt rest kind
+  pub is_fault : BeginsWithFault rest kind

@@ -1,6 +1,6 @@
 // Quoted texts.
 ghost use Rattle.std.specs.Prelude.{◌≡◌, ◌≤◌, length, IfOk, option_map};
-ghost use Rattle.game_text.specs.Reading.{spelled_byte, spelled, after_text};
+ghost use Rattle.game_text.specs.Reading.{spelled_byte, spelled, from_closing_quote};
 
 use std::alloc::{AllocError, Global};
 
@@ -18,7 +18,7 @@ fn spelled_byte(bytes: &[u8]) -> Option<(u8, &[u8])>
 /// The bytes from the quote that closes a text on, where these are after its opening quote: none where no quote
 /// closes it.
 pub fn closing(bytes: &[u8]) -> &[u8]
-    ensures closing { result.now ≡ after_text bytes.now }
+    ensures closing { result.now ≡ from_closing_quote bytes.now }
     ensures within { length result.now ≤ length bytes.now }
 {
     let mut rest = bytes;

@@ -5,8 +5,8 @@ use Rattle.std.proofs.lemmas.Bool.Decides.{Decides-and, Decides-eqb, Decides-ltb
 use Rattle.std.proofs.lemmas.Bool.{and_parts}
 use Rattle.rational.specs.Gcd.{gcd}
 use Rattle.rational.specs.Rational.{is_lowest, frac, ◌+ℚ◌, ◌≤ℚ◌, zero_ℚ, one_ℚ}
-use Rattle.rational.specs.Sum.{sum_to}
-use Rattle.game_theory.specs.Trees.{Tree, IsTree, IsChild, IsChanceDistribution}
+use Rattle.rational.specs.Sum.{sum_to, IsDistribution}
+use Rattle.game_theory.specs.Trees.{Tree, IsTree, IsChild}
 
 -- ---- tests of many numbers
 -- whether a test holds at each number below n
@@ -139,7 +139,7 @@ set-tells : (t : Tree) → PassesTests t → (s : ℕ) → s < t.sets → (if_an
 set-tells t w s l = and_parts (if_any (t.owner s) (λ i. nat_lt i t.players)) (nat_lt 0 (t.actions s)) (each_below-tells (set_fits t) t.sets w.sets s l)
 
 -- what passes the tests, with chance_distributions for chance, is a tree
-pub tree-tested : (t : Tree) → PassesTests t → ((s : ℕ) → s < t.sets → t.owner s ≡ None → IsChanceDistribution t s) → IsTree t
+pub tree-tested : (t : Tree) → PassesTests t → ((s : ℕ) → s < t.sets → t.owner s ≡ None → IsDistribution (t.actions s) (t.chance s)) → IsTree t
 tree-tested t w chance_distributions =
     record {
       some_node = (Decides-ltb 0 t.size).0 w.some_node;
@@ -165,5 +165,5 @@ unfolding frac ◌+ℚ◌ gcd is_lowest
 halves_sum = refl
 
 -- two even chances are a lottery
-pub coin_toss : (t : Tree) (s : ℕ) → t.actions s ≡ 2 → ((a : ℕ) → t.chance s a ≡ frac (pos 1) 2) → IsChanceDistribution t s
+pub coin_toss : (t : Tree) (s : ℕ) → t.actions s ≡ 2 → ((a : ℕ) → t.chance s a ≡ frac (pos 1) 2) → IsDistribution (t.actions s) (t.chance s)
 coin_toss t s e h = record { not_negative = λ a l. rw (h a) half_not_negative; sum_is_one = rw (e, h 0, h 1) halves_sum }

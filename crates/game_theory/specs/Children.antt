@@ -3,14 +3,14 @@ use Rattle.std.specs.Prelude.{ℕ, zero, suc, ◌<◌, ◌≡◌, ◌==◌, ◌&
 use Rattle.game_theory.specs.Trees.{Tree, IsChild}
 use Rattle.game_theory.specs.Behaviour.{is_parent}
 
--- the number below n that passes a test which only one does
-abbrev pub the_one_below : ℕ → (ℕ → Bool) → ℕ
-the_one_below zero passes = 0
-the_one_below (suc n) passes = if passes n then n else the_one_below n passes
+-- the last number below n that passes the test, and 0 where none does
+abbrev pub last_below : ℕ → (ℕ → Bool) → ℕ
+last_below zero passes = 0
+last_below (suc n) passes = if passes n then n else last_below n passes
 
 -- the node to which action a of node k leads
 abbrev pub child : Tree → ℕ → ℕ → ℕ
-child t k a = the_one_below t.size (λ c. is_parent t k c && (t.branch c == a))
+child t k a = last_below t.size (λ c. is_parent t k c && (t.branch c == a))
 
 -- a list for each node, which has for each action of the node's set the node to which it leads
 pub record AreChildren (t : Tree) (lists : List (List ℕ)) : Type 0 where

@@ -1,7 +1,11 @@
 -- How the information sets of a game tree are numbered.
-use Rattle.std.specs.Prelude.{ℕ, ◌<◌, ◌≡◌, Some}
+use Rattle.std.specs.Prelude.{ℕ, ◌<◌, ◌≡◌, Option, Some}
 use Rattle.game_theory.specs.Trees.{Tree}
 
--- the sets are numbered by their first nodes: before a set's node comes a node of each set with a smaller number
+-- indices are numbered by first use: before a place with one comes a place with each smaller one
+abbrev pub AreNumberedByFirstUse : (ℕ → Option ℕ) → ℕ → Type 0
+AreNumberedByFirstUse index n = (k s r : ℕ) → k < n → index k ≡ Some s → r < s → (l : ℕ) × (l < k) × (index l ≡ Some r)
+
+-- the sets are numbered by their first nodes
 abbrev pub AreNumberedByFirstNodes : Tree → Type 0
-AreNumberedByFirstNodes t = (k s r : ℕ) → k < t.size → t.set k ≡ Some s → r < s → (l : ℕ) × (l < k) × (t.set l ≡ Some r)
+AreNumberedByFirstNodes t = AreNumberedByFirstUse t.set t.size

@@ -42,7 +42,7 @@ PayoffIsMeanOfReplies =
     (g : Game) (m : Mixed) (i j : ℕ) → i < length g.strategies
     → payoff g m j ≡ sum_to (slice_index g.strategies i) (λ s. m i s *ℚ payoff g (reply m i s) j)
 
--- a game has one list of pure equilibria
+-- a game has at most one list of pure equilibria
 abbrev pub OneListOfPureEquilibria : Type 0
 OneListOfPureEquilibria =
     (g : Game) (a b : List (List ℚ)) → ArePureEquilibria g a → ArePureEquilibria g b → a ≡ b

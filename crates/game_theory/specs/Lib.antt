@@ -7,6 +7,7 @@ pub mod Laws
 pub mod Lines
 pub mod Mixed
 pub mod OwnSets
+pub mod Paths
 pub mod Profiles
 pub mod Ranks
 pub mod Recall

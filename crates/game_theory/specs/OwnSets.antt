@@ -24,6 +24,10 @@ player_sets t = flat_map (own_sets t) (range_with_len 0 t.players)
 abbrev pub own_counts : Tree → ℕ → List ℕ
 own_counts t i = map t.actions (own_sets t i)
 
+-- how many actions each of the players' sets has
+abbrev pub action_counts : Tree → List ℕ
+action_counts t = map t.actions (player_sets t)
+
 -- player i chooses at node k, which is in set s
 pub record Chooses (t : Tree) (k i s : ℕ) : Type 0 where
   pub at_set : t.set k ≡ Some s

@@ -25,6 +25,6 @@ HaveOneHistory t i s =
     (k l : ℕ) → k < t.size → l < t.size → t.set k ≡ Some s → t.set l ≡ Some s
     → own_history t i k ≡ own_history t i l
 
--- the nodes of each own set of player i have one
+-- perfect recall of player i: the nodes of each own set have one own history
 abbrev pub HasPerfectRecall : Tree → ℕ → Type 0
 HasPerfectRecall t i = (s : ℕ) → t.owner s ≡ Some i → HaveOneHistory t i s

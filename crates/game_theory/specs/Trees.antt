@@ -1,7 +1,7 @@
 -- Games in extensive form. Source: Kuhn 1953. Nodes, actions, information sets and players count from 0.
 use Rattle.std.specs.Prelude.{ℕ, zero, suc, ◌<◌, ◌≡◌, Option, Some, None}
-use Rattle.rational.specs.Rational.{ℚ, ◌≤ℚ◌, zero_ℚ, one_ℚ}
-use Rattle.rational.specs.Sum.{sum_to}
+use Rattle.rational.specs.Rational.{ℚ}
+use Rattle.rational.specs.Sum.{IsDistribution}
 
 -- Node 0 is the root. To each other node k leads the action `branch k` of the node `parent k`. `set k` is the information
 -- set of a node at which a choice is made, and nothing at an end. `pays k i` is what the outcome at node k pays player i, and
@@ -32,11 +32,6 @@ IsAbove t (suc n) k c = (0 < c) × IsAbove t n k (t.parent c)
 abbrev pub IsWithin : Tree → ℕ → ℕ → Type 0
 IsWithin t k c = (n : ℕ) × IsAbove t n k c
 
--- the probabilities of chance at a set are not negative and sum to 1
-pub record IsChanceDistribution (t : Tree) (s : ℕ) : Type 0 where
-  pub not_negative : (a : ℕ) → a < t.actions s → zero_ℚ ≤ℚ t.chance s a
-  pub sum_is_one : sum_to (t.actions s) (t.chance s) ≡ one_ℚ
-
 -- There is a root, and each node stands after its parent. Each action at each set's nodes leads to one node, and each node but
 -- the root is led to by such an action.
 pub record IsTree (t : Tree) : Type 0 where
@@ -48,4 +43,4 @@ pub record IsTree (t : Tree) : Type 0 where
   pub led_to : (c : ℕ) → 0 < c → c < t.size → (s : ℕ) × (t.set (t.parent c) ≡ Some s) × (t.branch c < t.actions s)
   pub some_child : (k s a : ℕ) → k < t.size → t.set k ≡ Some s → a < t.actions s → (c : ℕ) × IsChild t k a c
   pub one_child : (k a c d : ℕ) → IsChild t k a c → IsChild t k a d → c ≡ d
-  pub chance_distributions : (s : ℕ) → s < t.sets → t.owner s ≡ None → IsChanceDistribution t s
+  pub chance_distributions : (s : ℕ) → s < t.sets → t.owner s ≡ None → IsDistribution (t.actions s) (t.chance s)

@@ -20,7 +20,7 @@ pub record PairsAreExactlyThose : Type 0 where
       → AllPairs (λ p q. (p.0 < q.0) ⊎ ((p.0 ≡ q.0) × (p.1 < q.1)))
       (all_pairs all first second)
 
--- Two lists have one list of pairs, or too many.
+-- Two lists have at most one answer: a list of pairs, or too many.
 abbrev pub PairsAreSingle : Type 0
 PairsAreSingle =
     (all : List ℕ) (first second : List MarkedPoint) → IsSingle (pairs_in all first second)

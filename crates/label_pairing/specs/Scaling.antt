@@ -3,7 +3,7 @@ use Rattle.std.specs.Prelude.{ℕ, ◌<◌, List, ◌++◌, length, map}
 use Rattle.std.specs.List.{range_with_len}
 use Rattle.rational.specs.Rational.{ℚ, ◌≤ℚ◌, zero_ℚ}
 use Rattle.rational.specs.Sum.{entry_at, sum_to}
-use Rattle.frac128.specs.Steps.{unfit, Step}
+use Rattle.frac128.specs.Steps.{step_of, Step}
 use Rattle.frac128.specs.declared.steps.Op.TheVariants.{Add, Div}
 use Rattle.linear_systems.specs.Points.{IsNonzero}
 
@@ -14,11 +14,11 @@ pub record IsScalable (point : List ℚ) : Type 0 where
 
 -- the entry at a place is added to the sum of those before it
 abbrev pub addition : List ℚ → ℕ → Step
-addition point i = unfit Add (sum_to i (entry_at point)) (entry_at point i)
+addition point i = step_of Add (sum_to i (entry_at point)) (entry_at point i)
 
 -- the entry at a place is divided by the sum of all
 abbrev pub division : List ℚ → ℕ → Step
-division point i = unfit Div (entry_at point i) (sum_to (length point) (entry_at point))
+division point i = step_of Div (entry_at point i) (sum_to (length point) (entry_at point))
 
 -- the sum of the entries in order, from 0 on
 abbrev pub sum_steps : List ℚ → List Step

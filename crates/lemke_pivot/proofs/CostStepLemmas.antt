@@ -5,7 +5,7 @@ use Rattle.std.proofs.Math.Seq.{take-suc}
 use Rattle.std.proofs.lemmas.Grind.{flat_map-append}
 use Rattle.std.proofs.lemmas.List.Elements.{All-nil, All-cons, All-append}
 use Rattle.rational.specs.Rational.{ℚ, ◌-ℚ◌, ◌*ℚ◌}
-use Rattle.frac128.specs.Steps.{MulFits, SubFits, unfit, Step, IsFirstUnfit, StepsGive}
+use Rattle.frac128.specs.Steps.{MulFits, SubFits, step_of, Step, IsFirstUnfit, StepsGive}
 use Rattle.frac128.specs.declared.steps.Op.TheVariants.{Sub, Mul}
 use Rattle.frac128.specs.FirstUnfit.{StepsFit, IsFirstUnfitOf}
 use Rattle.frac128.proofs.FirstUnfitLemmas.{split_here}
@@ -15,11 +15,11 @@ use Rattle.lemke_pivot.specs.FormProblems.{PlayersCell, both_costs, cost_at, cos
 
 -- ---- a cost
 pub difference_gives : (most weight payoff part : ℚ) (r : Result ℚ Step) → part ≡ most *ℚ weight → MulFits most weight
-    → IfOk r (λ v. v ≡ part -ℚ payoff) → OnOk r (SubFits part payoff) → IfErr r (λ e. e ≡ unfit Sub part payoff) → OnErr r (SubFits part payoff → ⊥)
+    → IfOk r (λ v. v ≡ part -ℚ payoff) → OnOk r (SubFits part payoff) → IfErr r (λ e. e ≡ step_of Sub part payoff) → OnErr r (SubFits part payoff → ⊥)
     → StepsGive (cost_steps most weight payoff) (cost_at most weight payoff) r
 difference_gives most weight payoff part r is product value fits step refused =
-    following-gives (unfit Mul most weight ∷ []) (unfit Sub (most *ℚ weight) payoff ∷ []) (cost_at most weight payoff) r (one-fits (unfit Mul most weight) product)
-    (subst (λ p. StepsGive (unfit Sub p payoff ∷ []) (p -ℚ payoff) r) is (subtracted-gives part payoff r value fits step refused))
+    following-gives (step_of Mul most weight ∷ []) (step_of Sub (most *ℚ weight) payoff ∷ []) (cost_at most weight payoff) r (one-fits (step_of Mul most weight) product)
+    (subst (λ p. StepsGive (step_of Sub p payoff ∷ []) (p -ℚ payoff) r) is (subtracted-gives part payoff r value fits step refused))
 
 -- ---- both players' costs
 both_append : (xs ys : List Cell) → both_costs (xs ++ ys) ≡ both_costs xs ++ both_costs ys

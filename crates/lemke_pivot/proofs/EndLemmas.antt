@@ -13,7 +13,7 @@ use Rattle.linear_systems.specs.Lex.{IsLexPositive}
 use Rattle.linear_systems.specs.Rows.{basic_solution, key}
 use Rattle.linear_systems.proofs.RowLemmas.{unit_nonneg, unit_other}
 use Rattle.lemke_pivot.specs.Vectors.{image}
-use Rattle.lemke_pivot.specs.Problems.{IsCopositive}
+use Rattle.lemke_pivot.specs.Problems.{ExcludesRays}
 use Rattle.linear_systems.proofs.SolutionLemmas.{solution_basic, solution_solves}
 use Rattle.lemke_pivot.specs.Values.{direction, is_basic}
 use Rattle.lemke_pivot.proofs.EdgeLemmas.{swap, Almost, At, at_first, swap_out, swap_other}
@@ -201,8 +201,8 @@ module _ (n : ℕ) (M : ℕ → ℕ → ℚ) (b : ℕ → ℚ) (r : ℕ) (fr : I
           go : (k : ℕ) × (k < n) × (c ≡ w_of k) × ((v : ℕ) → is_basic t v ≡ basis_without n k v) → ⊥
           go w = here w.0 w.1 w.2 w.3 (cases_eq w.0 r)
 
-  -- where the problem is copositive, some row has a positive entry
-  pub path_goes_on : (t : Tableau) (c col : ℕ) (earlier : List (ℕ → Bool)) → IsCopositive n M b → OnPath t c earlier → HasPositiveKeys n M b t → col < t.width → t.nonbasic col ≡ c → zero_ℚ <ℚ basic_solution t (z0_of n) → ((i : ℕ) → i < n → t.cell i col ≤ℚ zero_ℚ) → ⊥
+  -- where the problem excludes rays, some row has a positive entry
+  pub path_goes_on : (t : Tableau) (c col : ℕ) (earlier : List (ℕ → Bool)) → ExcludesRays n M b → OnPath t c earlier → HasPositiveKeys n M b t → col < t.width → t.nonbasic col ≡ c → zero_ℚ <ℚ basic_solution t (z0_of n) → ((i : ℕ) → i < n → t.cell i col ≤ℚ zero_ℚ) → ⊥
   path_goes_on t c col earlier cop o R hc c_is up none = no_ray n M b _ _ _ _ (basic_solution t (z0_of n)) (direction t col (z0_of n)) cop (path_ray t c col earlier o R hc c_is none up)
 
   -- no pair is basic with both variables

@@ -4,7 +4,7 @@ use Rattle.answers.specs.Answers.{Answer, Gives, ◌>>◌, refused_by}
 use Rattle.answers.proofs.AnswerLemmas.{gives_bind, gives_first}
 use Rattle.linear_systems.proofs.AgreementLemmas.{alike_trans}
 use Rattle.lex_tableau.specs.Rows.{tableau}
-use Rattle.lex_tableau.specs.StartStops.{start_in, IsStarted}
+use Rattle.lex_tableau.specs.StartStops.{start_in, IsStartTableau}
 use Rattle.lex_tableau.specs.declared.tableau.StartStop.{StartStop}
 use Rattle.lex_tableau.specs.declared.tableau.StartStop.TheVariants as starts
 use Rattle.lex_tableau.specs.Starts.{LinearSystem, system_of}
@@ -16,7 +16,7 @@ use Rattle.sequence_data.specs.Data.{FormData, form, side_of}
 use Rattle.lemke_pivot.specs.declared.stop.LcpStop.{LcpStop}
 use Rattle.lemke_pivot.specs.declared.stop.LcpStop.TheVariants as stops
 use Rattle.lemke_pivot.specs.FormProblems.{IsSystemOf, ProblemsAreOfForms, costs_in, form_size, problem_in, form_start_in, told_start, with_start}
-use Rattle.lemke_pivot.specs.Parts.{IsProblem, IsProblemOfForm, IsStartFor, Problem, start_of}
+use Rattle.lemke_pivot.specs.Parts.{IsProblem, IsProblemOfForm, IsStartFor, Problem, start_tableau}
 use Rattle.lemke_pivot.proofs.FormSystemLemmas.{for_sides}
 use Rattle.lemke_pivot.proofs.PathStartLemmas.{starts_for}
 
@@ -57,7 +57,7 @@ problems_of_forms f p valid stages =
     let n = last.0 in
     let s = last.1.0 in
     let is_system : IsSystemOf f s = last.1.1.0 in
-    let start : IsStarted s n = last.1.1.1.2 in
+    let start : IsStartTableau s n = last.1.1.1.2 in
     let same : with_start f n ≡ p = cc (last.2) in
     let begins : IsStartFor f.first f.second n = starts_for f.first f.second s n (for_sides f s f.first f.second valid refl refl is_system) start.start start.valid in
     subst (λ p. IsProblem p × IsProblemOfForm (form f) f.greatest_one f.greatest_two p) same (
@@ -65,6 +65,6 @@ problems_of_forms f p valid stages =
       record {
         rows = refl;
         columns = refl;
-        begins = alike_trans (start_of (side_of f.first) (side_of f.second) (costs (form f) 0 f.greatest_one) (costs (form f) 1 f.greatest_two)) (system_of s) (tableau n) is_system.begins start.start.fractions;
+        begins = alike_trans (start_tableau (side_of f.first) (side_of f.second) (costs (form f) 0 f.greatest_one) (costs (form f) 1 f.greatest_two)) (system_of s) (tableau n) is_system.begins start.start.fractions;
       },
     )

@@ -21,8 +21,8 @@ use Rattle.sequence_data.specs.Data.{FormData, IsFormData, LeafFits, SideData, f
 use Rattle.sequence_data.proofs.GainLemmas.{costs_positive_one, costs_positive_two}
 use Rattle.sequence_data.specs.Matrices.{IsInside, placed, HoldsNumbers, number_at}
 use Rattle.lemke_pivot.specs.FormProblems.{IsSystemOf, cost_at, cost_one, cost_two, form_size}
-use Rattle.lemke_pivot.specs.Parts.{start_of}
-use Rattle.lemke_pivot.specs.ProblemLaws.{CostsAreNotNegative}
+use Rattle.lemke_pivot.specs.Parts.{start_tableau}
+use Rattle.lemke_pivot.specs.ProblemLaws.{CostSumsAreNotNegative}
 use Rattle.lemke_pivot.specs.Systems.{IsSystemFor}
 
 -- ---- costs of cells
@@ -72,7 +72,7 @@ module _ (rows columns : Side) (one two other_one other_two : ℕ → ℕ → �
   unfolding right_sides
   right_same i = refl
 
-  pub starts_same : Alike (start_of rows columns one two) (start_of rows columns other_one other_two)
+  pub starts_same : Alike (start_tableau rows columns one two) (start_tableau rows columns other_one other_two)
   starts_same =
       record {
         rows = refl;
@@ -107,7 +107,7 @@ module _ (f : FormData) (valid : IsFormData f) where
       record {
         valid = w.valid;
         rated = w.rated;
-        begins = alike_trans (start_of (side_of f.first) (side_of f.second) (costs (form f) 0 f.greatest_one) (costs (form f) 1 f.greatest_two)) (start_of (side_of f.first) (side_of f.second) (number_at held_one (sequences (side_of f.second))) (number_at held_two (sequences (side_of f.second)))) (system_of s)
+        begins = alike_trans (start_tableau (side_of f.first) (side_of f.second) (costs (form f) 0 f.greatest_one) (costs (form f) 1 f.greatest_two)) (start_tableau (side_of f.first) (side_of f.second) (number_at held_one (sequences (side_of f.second))) (number_at held_two (sequences (side_of f.second)))) (system_of s)
             (starts_same (side_of f.first) (side_of f.second) (costs (form f) 0 f.greatest_one) (costs (form f) 1 f.greatest_two) (number_at held_one (sequences (side_of f.second))) (number_at held_two (sequences (side_of f.second)))
             (λ r q hr hq. sym (costs_are (λ c. c.one) f.greatest_one one held_one e holds_one r q hr hq)) (λ r q hr hq. sym (costs_are (λ c. c.two) f.greatest_two two held_two g holds_two r q hr hq))) w.begins;
       }
@@ -135,9 +135,9 @@ module _ (f : FormData) (valid : IsFormData f) (cells : List Cell) (x y : ℕ) (
         if_ok-then r _ (IsSystemOf f) found (λ s k. system_has_costs f valid one two held_one held_two s one_is two_is (held one held_one holds_one) (held two held_two holds_two) k)
 
 -- the system of a form is that of a problem
-pub for_sides : (f : FormData) (s : LinearSystem) (first second : SideData) → IsFormData f → first ≡ f.first → second ≡ f.second → IsSystemOf f s → (one two : ℕ → ℕ → ℚ) × CostsAreNotNegative (costs_of (side_of first) (side_of second) one two) × IsSystemFor first second one two s
+pub for_sides : (f : FormData) (s : LinearSystem) (first second : SideData) → IsFormData f → first ≡ f.first → second ≡ f.second → IsSystemOf f s → (one two : ℕ → ℕ → ℚ) × CostSumsAreNotNegative (costs_of (side_of first) (side_of second) one two) × IsSystemFor first second one two s
 for_sides f s first second valid e g h =
     let one = costs (form f) 0 f.greatest_one in
     let two = costs (form f) 1 f.greatest_two in
-    subst₂ (λ (a b : SideData). (one two : ℕ → ℕ → ℚ) × CostsAreNotNegative (costs_of (side_of a) (side_of b) one two) × IsSystemFor a b one two s) (sym e) (sym g)
+    subst₂ (λ (a b : SideData). (one two : ℕ → ℕ → ℚ) × CostSumsAreNotNegative (costs_of (side_of a) (side_of b) one two) × IsSystemFor a b one two s) (sym e) (sym g)
     (one, two, (λ i j hi hj. nonneg-add _ _ (costs_positive_one f i j valid) (costs_positive_two f i j valid)), h)

@@ -93,7 +93,7 @@ module _ (n r : ℕ) (m : WholeTableau) (S : IsPathStart n r m) where
 
       pub walk_never : (t₁ : WholeTableau) (col : ℕ) → t₁ ≡ t → IsNonbasicColumn t c (Some col) → IsRatioRow t₁ col None → ⊥
       walk_never t₁ col e h none =
-          let w = leaving_row n S.matrix S.right r S.first (map tableau o.earlier) (tableau t) c col S.copositive path ne h.0 h.1 in
+          let w = leaving_row n S.matrix S.right r S.first (map tableau o.earlier) (tableau t) c col S.excludes_rays path ne h.0 h.1 in
           not_lt_of_le ((tableau t).cell w.0 col) zero_ℚ (subst (λ m. IsRatioRow m col None) e none w.0 (subst (λ k. w.0 < k) (sym o.rated) w.1.within)) w.1.positive
 
       module _ (col row : ℕ) (h : IsNonbasicColumn t c (Some col)) (L : IsLexicographicRow n n w_of (tableau t) col row) where

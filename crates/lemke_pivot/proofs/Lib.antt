@@ -1,7 +1,6 @@
 pub mod AlikeTableauLemmas
 pub mod BlockLemmas
 pub mod ComplementLemmas
-pub mod CopositiveLemmas
 pub mod CostStepLemmas
 pub mod EdgeLemmas
 pub mod EndLemmas
@@ -17,6 +16,7 @@ pub mod PivotLemmas
 pub mod ProblemAnswerLemmas
 pub mod ProblemBlockLemmas
 pub mod ProblemPathLemmas
+pub mod RayExclusionLemmas
 pub mod SetCountLemmas
 pub mod SolutionLemmas
 pub mod SystemLemmas

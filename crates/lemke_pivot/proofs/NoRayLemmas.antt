@@ -1,4 +1,4 @@
--- no ray leads from a solution of a problem that is copositive
+-- a problem that excludes rays has none
 use Rattle.std.proofs.Common.{ℕ, pos, ◌<◌, ◌≡◌, inl, inr, [], ◌∷◌, refl, sym, ap, ap₂, ◌∙◌, subst, arith}
 use Rattle.std.proofs.lemmas.Int.{ints}
 use Rattle.rational.specs.Rational.{ℚ, ◌+ℚ◌, ◌*ℚ◌, zero_ℚ, ◌≤ℚ◌, ◌<ℚ◌}
@@ -10,7 +10,7 @@ use Rattle.rational.proofs.Field.{le_or_lt, le_antisymm, lt_irrefl, pos-mul}
 use Rattle.rational.proofs.SumLemmas.{sum_to-zeros, sum_to-nonneg, each_zero}
 use Rattle.sequence_forms.specs.Matrices.{AreNotNegative}
 use Rattle.lemke_pivot.specs.Vectors.{dot, image, bilinear}
-use Rattle.lemke_pivot.specs.Problems.{IsCopositive, IsRay}
+use Rattle.lemke_pivot.specs.Problems.{ExcludesRays, IsRay}
 use Rattle.lemke_pivot.proofs.VectorLemmas.{dot_comm, dot_right, dot-two, dot-constant}
 
 -- numbers that are not negative and not all 0 have a positive sum
@@ -28,7 +28,7 @@ first_zero a u0 s ha hu hs e = (none, combine rational_ring (a ∷ u0 ∷ s ∷ 
           | inr l ↦ absurd (lt_irrefl zero_ℚ (linear (a ∷ (u0 *ℚ s) ∷ []) ((lit (pos 0) ⟨≤⟩ at 0) ∷ (lit (pos 0) ⟨<⟩ at 1) ∷ ((at 0 ⟨+⟩ at 1) ⟨=⟩ lit (pos 0)) ∷ []) (lit (pos 0) ⟨<⟩ lit (pos 0)) (λ one z p h. omega (arith, ints)) (ha, (pos-mul u0 s l hs, (e, tt)))))
         ]
 
-pub no_ray : (n : ℕ) (M : ℕ → ℕ → ℚ) (b w z v u : ℕ → ℚ) (z0 u0 : ℚ) → IsCopositive n M b → IsRay n M b w z v u z0 u0 → ⊥
+pub no_ray : (n : ℕ) (M : ℕ → ℕ → ℚ) (b w z v u : ℕ → ℚ) (z0 u0 : ℚ) → ExcludesRays n M b → IsRay n M b w z v u z0 u0 → ⊥
 no_ray n M b w z v u z0 u0 c r = lt_irrefl zero_ℚ (linear ((z0 *ℚ sum_to n u) ∷ dot n b u ∷ bilinear n n M u z ∷ []) ((lit (pos 0) ⟨<⟩ at 0) ∷ (lit (pos 0) ⟨≤⟩ at 1) ∷ (at 2 ⟨=⟩ lit (pos 0)) ∷ ((at 1 ⟨+⟩ at 2 ⟨+⟩ at 0) ⟨=⟩ lit (pos 0)) ∷ []) (lit (pos 0) ⟨<⟩ lit (pos 0)) (λ one z p h. omega (arith, ints)) (pos-mul z0 (sum_to n u) r.z0_above above, (c.side u r.u_sign up none.1, (straight, (point, tt)))))
   where
     above : zero_ℚ <ℚ sum_to n u

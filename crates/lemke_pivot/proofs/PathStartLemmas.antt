@@ -11,16 +11,16 @@ use Rattle.sequence_forms.proofs.EndLemmas.{solutions_on_trees, solutions_on_tab
 use Rattle.sequence_forms.proofs.FlowLemmas.{ordered_flow}
 use Rattle.lemke_pivot.specs.Problems.{Costs, costs_of, matrix, right_sides}
 use Rattle.lemke_pivot.specs.ProblemPaths.{IsLeastRow, IsFirstRow}
-use Rattle.lemke_pivot.proofs.CopositiveLemmas.{sides_copositive}
+use Rattle.lemke_pivot.proofs.RayExclusionLemmas.{sides_exclude_rays}
 use Rattle.lemke_pivot.proofs.SolutionLemmas.{solutions_have_plans}
 use Rattle.lemke_pivot.proofs.ProblemPathLemmas.{least_is_negative, solved}
 use Rattle.lex_tableau.specs.Rows.{WholeTableau, tableau, IsTableau}
 use Rattle.lex_tableau.specs.Starts.{LinearSystem, system_of, IsStartOf}
 use Rattle.sequence_data.specs.declared.types.SetRow.{SetRow}
 use Rattle.sequence_data.specs.Data.{SideData, side_of}
-use Rattle.lemke_pivot.specs.Parts.{Problem, size_of, problem_size, start_of, IsProblem, IsStartFor}
+use Rattle.lemke_pivot.specs.Parts.{Problem, size_of, problem_size, start_tableau, IsProblem, IsStartFor}
 use Rattle.lemke_pivot.specs.Paths.{IsPathStart}
-use Rattle.lemke_pivot.specs.ProblemLaws.{CostsAreNotNegative}
+use Rattle.lemke_pivot.specs.ProblemLaws.{CostSumsAreNotNegative}
 use Rattle.lemke_pivot.specs.Systems.{IsSystemFor}
 use Rattle.lemke_pivot.specs.SolutionLaws.{SolvesForm, SolutionsSolveTheForm, SolutionsSolveTrees, SolutionsSolveTables}
 use Rattle.lemke_pivot.proofs.KeptWalkLemmas.{path_of_numbers}
@@ -34,7 +34,7 @@ module _ (p : Problem) (P : IsProblem p) (r : ℕ) (L : IsLeastRow (size_of p) (
   abbrev s : Costs
   s = costs_of (side_of p.first) (side_of p.second) P.start.one P.start.two
 
-  first_row : (one two : ℕ → ℕ → ℚ) → Alike (start_of (side_of p.first) (side_of p.second) one two) (tableau p.tableau) → IsFirstRow (size_of p) (right_sides (costs_of (side_of p.first) (side_of p.second) one two)) r
+  first_row : (one two : ℕ → ℕ → ℚ) → Alike (start_tableau (side_of p.first) (side_of p.second) one two) (tableau p.tableau) → IsFirstRow (size_of p) (right_sides (costs_of (side_of p.first) (side_of p.second) one two)) r
   first_row one two B =
       record {
         is_least = record { within = L.within; least = least; last = λ i l h. subst (λ a. right_sides (costs_of (side_of p.first) (side_of p.second) one two) r <ℚ a) (sym (B.right i h)) (subst (λ a. a <ℚ (tableau p.tableau).right i) (sym (B.right r L.within)) (L.last i l h)) };
@@ -51,7 +51,7 @@ module _ (p : Problem) (P : IsProblem p) (r : ℕ) (L : IsLeastRow (size_of p) (
         matrix = matrix s;
         right = right_sides s;
         alike = P.start.begins;
-        copositive = sides_copositive (side_of p.first) (side_of p.second) P.start.one P.start.two (ordered_flow (side_of p.first) P.first.ordered) (ordered_flow (side_of p.second) P.second.ordered) P.start.costs;
+        excludes_rays = sides_exclude_rays (side_of p.first) (side_of p.second) P.start.one P.start.two (ordered_flow (side_of p.first) P.first.ordered) (ordered_flow (side_of p.second) P.second.ordered) P.start.costs;
         first = first_row P.start.one P.start.two P.start.begins;
         starts = P.start.starts;
         rated = P.start.rated;
@@ -71,7 +71,7 @@ solves_the_form f g k p s P F S =
     let one : ℕ → ℕ → ℚ = costs f 0 g in
     let two : ℕ → ℕ → ℚ = costs f 1 k in
     let c : Costs = costs_of (side_of p.first) (side_of p.second) one two in
-    let begins : Alike (start_of (side_of p.first) (side_of p.second) one two) (tableau p.tableau) = subst₂ (λ a b. Alike (start_of a b one two) (tableau p.tableau)) F.rows F.columns F.begins in
+    let begins : Alike (start_tableau (side_of p.first) (side_of p.second) one two) (tableau p.tableau) = subst₂ (λ a b. Alike (start_tableau a b one two) (tableau p.tableau)) F.rows F.columns F.begins in
     let start = path_start p P S.row S.begins in
     own_solution f g k p s F.rows F.columns S.first S.second
     (solutions_have_plans (record { rows = side_of p.first; columns = side_of p.second; weight = f.weight; pays = f.pays }) g k _ _
@@ -85,13 +85,13 @@ pub solves_tables : SolutionsSolveTables
 solves_tables game m n f g k p s two alike P F S = solutions_on_tables game m n f g k _ _ _ _ _ _ two alike (solves_the_form f g k p s P F S)
 
 -- ---- the beginning
-pub starts_for : (first second : SideData) (s : LinearSystem) (n : WholeTableau) → (one two : ℕ → ℕ → ℚ) × CostsAreNotNegative (costs_of (side_of first) (side_of second) one two) × IsSystemFor first second one two s → IsStartOf s n → IsTableau n → IsStartFor first second n
+pub starts_for : (first second : SideData) (s : LinearSystem) (n : WholeTableau) → (one two : ℕ → ℕ → ℚ) × CostSumsAreNotNegative (costs_of (side_of first) (side_of second) one two) × IsSystemFor first second one two s → IsStartOf s n → IsTableau n → IsStartFor first second n
 starts_for first second s n (one, two, costs, P) h valid =
     record {
       one = one;
       two = two;
       costs = costs;
-      begins = alike_trans (start_of (side_of first) (side_of second) one two) (system_of s) (tableau n) P.begins h.fractions;
+      begins = alike_trans (start_tableau (side_of first) (side_of second) one two) (system_of s) (tableau n) P.begins h.fractions;
       starts = λ i l. ap (λ xs. get_or xs i 0) h.starts ∙ sym (P.begins.basic i l);
       rated = h.rated ∙ P.rated;
       valid = valid;

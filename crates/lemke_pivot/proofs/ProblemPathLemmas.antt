@@ -14,14 +14,14 @@ use Rattle.linear_systems.specs.Rows.{basic_solution, Alike, IsLexicographicRow}
 use Rattle.linear_systems.proofs.AgreementLemmas.{alike_sym, alike_trans, alike_both, alike_pivot, alike_lex_row}
 use Rattle.linear_systems.proofs.LexRowLemmas.{lex_row_once, lex_row_is}
 use Rattle.lemke_pivot.specs.Vectors.{zeros}
-use Rattle.lemke_pivot.specs.Problems.{costs_of, size, matrix, right_sides, IsCopositive}
+use Rattle.lemke_pivot.specs.Problems.{costs_of, size, matrix, right_sides, ExcludesRays}
 use Rattle.lemke_pivot.proofs.EdgeLemmas.{swap, At, at_begin, at_next, no_basis_twice, swap_out}
 use Rattle.lemke_pivot.specs.Values.{is_basic}
 use Rattle.lemke_pivot.specs.ProblemPaths.{w_of, z_of, z0_of, complement, SolvesAt, IsRayAt, start, IsFirstRow, IsLeastRow, Replaces, PathTo}
 use Rattle.lemke_pivot.proofs.KeyLemmas.{HasPositiveKeys, is_start, row_in, pivots, next_keys, after, basic_past}
 use Rattle.lemke_pivot.specs.ProblemLaws.{NoBasisOccursTwice, PathsAreShort, PathsAreUnique, PathsEndSolved, PathsEndInRays, FirstRowsExist, AlwaysALeavingRow, LeastIsNegative}
 use Rattle.lemke_pivot.proofs.ProblemBlockLemmas.{six_p}
-use Rattle.lemke_pivot.proofs.CopositiveLemmas.{sides_copositive}
+use Rattle.lemke_pivot.proofs.RayExclusionLemmas.{sides_exclude_rays}
 use Rattle.lemke_pivot.proofs.SetCountLemmas.{Below, sets-bound}
 use Rattle.lemke_pivot.proofs.ValueLemmas.{value_out, basic_yes}
 use Rattle.lemke_pivot.proofs.ComplementLemmas.{Which, which, complement_neither, labels}
@@ -108,7 +108,7 @@ module _ (n : ℕ) (M : ℕ → ℕ → ℚ) (b : ℕ → ℚ) (r : ℕ) (fr : I
   pub in_ray : (ss : List Tableau) (t : Tableau) (c col : ℕ) → PathTo n M b r ss t c → basic_solution t (z0_of n) ≢ zero_ℚ → col < t.width → t.nonbasic col ≡ c → ((i : ℕ) → i < n → t.cell i col ≤ℚ zero_ℚ) → IsRayAt n M b t col
   in_ray ss t c col p ne hc e none = let w = on_path ss t c (goes_on ss t c p ne) in path_ray n M b r fr t c col (map is_basic ss) w.0 w.1 hc e none (above t w.1 ne)
 
-  pub leaving_row : (ss : List Tableau) (t : Tableau) (c col : ℕ) → IsCopositive n M b → PathTo n M b r ss t c → basic_solution t (z0_of n) ≢ zero_ℚ → col < t.width → t.nonbasic col ≡ c → (row : ℕ) × IsLexicographicRow n n w_of t col row
+  pub leaving_row : (ss : List Tableau) (t : Tableau) (c col : ℕ) → ExcludesRays n M b → PathTo n M b r ss t c → basic_solution t (z0_of n) ≢ zero_ℚ → col < t.width → t.nonbasic col ≡ c → (row : ℕ) × IsLexicographicRow n n w_of t col row
   leaving_row ss t c col cop p ne hc e = let w = on_path ss t c (goes_on ss t c p ne) in
       elim (lex_row_is (suc (suc (n + n))) n (start n M b) t col (is_start n M b) w.1.reached) [
         | inl none ↦ absurd (path_goes_on n M b r fr t c col (map is_basic ss) cop w.0 w.1 hc e (above t w.1 ne) none)
@@ -154,7 +154,7 @@ paths_end_solved n M b r ss t c fr p z = solved n M b r fr ss t c p z
 
 pub always_a_leaving_row : AlwaysALeavingRow
 always_a_leaving_row rows columns one two r ss t c col f g costs fr p ne hc e = let s = costs_of rows columns one two in
-    leaving_row (size s) (matrix s) (right_sides s) r fr ss t c col (sides_copositive rows columns one two f g costs) p ne hc e
+    leaving_row (size s) (matrix s) (right_sides s) r fr ss t c col (sides_exclude_rays rows columns one two f g costs) p ne hc e
 
 pub least_is_negative : LeastIsNegative
 unfolding right_sides

@@ -10,10 +10,10 @@ use Rattle.lemke_pivot.specs.Problems.{costs_of, matrix, right_sides}
 use Rattle.lemke_pivot.proofs.KeyLemmas.{is_start}
 use Rattle.game_core.specs.Limits.{most_rows}
 use Rattle.lex_tableau.specs.Entries.{AreEntries, AreNumbered}
-use Rattle.lex_tableau.specs.Starts.{parts_of, system_of, IsSystem}
+use Rattle.lex_tableau.specs.Starts.{linear_system, system_of, IsSystem}
 use Rattle.lex_tableau.proofs.EntryLemmas.{cell_at, right_at}
 use Rattle.sequence_data.specs.Data.{SideData, side_of}
-use Rattle.lemke_pivot.specs.Parts.{problem_size, start_of}
+use Rattle.lemke_pivot.specs.Parts.{problem_size, start_tableau}
 use Rattle.lemke_pivot.specs.Systems.{IsSystemFor}
 
 -- numbers one after another are small
@@ -23,9 +23,9 @@ numbered_small first count xs w h i = elim (cases_lt i count) [
   | inr l ↦ (let e = get_or_past xs i 0 (let c : length xs ≡ count = w.length_is in omega (arith, c, l)) in omega (arith, e, h))
 ]
 
-module _ (first second : SideData) (one two : ℕ → ℕ → ℚ) (n : ℕ) (basics nonbasics : List ℕ) (cells : List ℚ) (n_is : n ≡ problem_size (side_of first) (side_of second)) (few : n ≤ most_rows) (basics_are : AreNumbered 1 n basics) (nonbasics_are : AreNumbered (n + 1) (n + 1) nonbasics) (cells_are : AreEntries (start_of (side_of first) (side_of second) one two) (n + 2) (n * (n + 2)) cells) where
+module _ (first second : SideData) (one two : ℕ → ℕ → ℚ) (n : ℕ) (basics nonbasics : List ℕ) (cells : List ℚ) (n_is : n ≡ problem_size (side_of first) (side_of second)) (few : n ≤ most_rows) (basics_are : AreNumbered 1 n basics) (nonbasics_are : AreNumbered (n + 1) (n + 1) nonbasics) (cells_are : AreEntries (start_tableau (side_of first) (side_of second) one two) (n + 2) (n * (n + 2)) cells) where
   abbrev t : Tableau
-  t = start_of (side_of first) (side_of second) one two
+  t = start_tableau (side_of first) (side_of second) one two
 
   width_is : n + 1 ≡ t.width
   width_is = let e = n_is in omega (arith, e)
@@ -33,7 +33,7 @@ module _ (first second : SideData) (one two : ℕ → ℕ → ℚ) (n : ℕ) (ba
   entries : AreEntries t (n + 1 + 1) (n * (n + 1 + 1)) cells
   entries = let e : n + 2 ≡ n + 1 + 1 = omega arith in subst (λ k. AreEntries t k (n * k) cells) e cells_are
 
-  begins : Alike t (system_of (parts_of basics nonbasics cells n))
+  begins : Alike t (system_of (linear_system basics nonbasics cells n))
   begins =
       record {
         rows = sym n_is ∙ sym basics_are.length_is;
@@ -44,10 +44,10 @@ module _ (first second : SideData) (one two : ℕ → ℕ → ℚ) (n : ℕ) (ba
         right = λ i hi. right_at t n (n + 1) cells entries i (omega (arith, hi, n_is)) width_is ∙ ap₂ (λ a b. get_or cells (i * (a + 1) + b) zero_ℚ) (sym nonbasics_are.length_is) (sym nonbasics_are.length_is);
       }
 
-  valid : IsSystem (parts_of basics nonbasics cells n)
+  valid : IsSystem (linear_system basics nonbasics cells n)
   valid =
       record {
-        distinct = (let s = costs_of (side_of first) (side_of second) one two in alike_distinct t (system_of (parts_of basics nonbasics cells n)) begins (is_start (problem_size (side_of first) (side_of second)) (matrix s) (right_sides s)).proper);
+        distinct = (let s = costs_of (side_of first) (side_of second) one two in alike_distinct t (system_of (linear_system basics nonbasics cells n)) begins (is_start (problem_size (side_of first) (side_of second)) (matrix s) (right_sides s)).proper);
         shape = entries.count ∙ ap₂ (λ a b. a * (b + 1)) (sym basics_are.length_is) (sym nonbasics_are.length_is);
         rated = (let b : length basics ≡ n = basics_are.length_is in omega (arith, b));
         basics_small = numbered_small 1 n basics basics_are (omega (arith, few));
@@ -55,5 +55,5 @@ module _ (first second : SideData) (one two : ℕ → ℕ → ℚ) (n : ℕ) (ba
         few = (let b : length basics ≡ n = basics_are.length_is in omega (arith, b, few));
       }
 
-  pub system_for : IsSystemFor first second one two (parts_of basics nonbasics cells n)
+  pub system_for : IsSystemFor first second one two (linear_system basics nonbasics cells n)
   system_for = record { valid = valid; begins = begins; rated = n_is }

@@ -3,7 +3,7 @@ use Rattle.std.specs.Prelude.{ℕ, List, [], ◌∷◌, Ok}
 use Rattle.std.specs.List.{flat_map}
 use Rattle.answers.specs.Answers.{Answer, ◌>>=◌, ◌>>◌, only, IsSingle, refused_by}
 use Rattle.rational.specs.Rational.{ℚ, ◌-ℚ◌, ◌*ℚ◌}
-use Rattle.frac128.specs.Steps.{unfit, Step}
+use Rattle.frac128.specs.Steps.{step_of, Step}
 use Rattle.frac128.specs.declared.steps.Op.TheVariants.{Sub, Mul}
 use Rattle.lex_tableau.specs.Rows.{WholeTableau}
 use Rattle.lex_tableau.specs.Starts.{LinearSystem}
@@ -31,13 +31,15 @@ form_size f = problem_size (side_of f.first) (side_of f.second)
 abbrev pub cost_at : ℚ → ℚ → ℚ → ℚ
 cost_at most weight payoff = (most *ℚ weight) -ℚ payoff
 
+-- its steps
 abbrev pub cost_steps : ℚ → ℚ → ℚ → List Step
-cost_steps most weight payoff = unfit Mul most weight ∷ unfit Sub (most *ℚ weight) payoff ∷ []
+cost_steps most weight payoff = step_of Mul most weight ∷ step_of Sub (most *ℚ weight) payoff ∷ []
 
--- the cost of each player at a cell
+-- the cost of player 0 at a cell
 abbrev pub cost_one : ℚ → Cell → ℚ
 cost_one most c = cost_at most c.weight c.one
 
+-- the cost of player 1 at a cell
 abbrev pub cost_two : ℚ → Cell → ℚ
 cost_two most c = cost_at most c.weight c.two
 
@@ -52,6 +54,7 @@ both_costs cells =
     flat_map (λ (c : Cell). record { player = 0; cell = c } ∷ record { player = 1; cell = c } ∷ [])
     cells
 
+-- the steps of the cost that is meant, by both players' greatest payoffs
 abbrev pub steps_at : ℚ → ℚ → PlayersCell → List Step
 steps_at greatest_one greatest_two c =
     cost_steps (of_player c.player greatest_one greatest_two) c.cell.weight

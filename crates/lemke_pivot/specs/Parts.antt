@@ -1,5 +1,5 @@
 -- What contracts see of a problem and of its solution.
-use Rattle.std.specs.Prelude.{ℕ, suc, ◌+◌, ◌<◌, ◌≤◌, ◌≡◌, get_or}
+use Rattle.std.specs.Prelude.{ℕ, suc, ◌+◌, ◌<◌, ◌≤◌, ◌≡◌, slice_index_or}
 use Rattle.rational.specs.Rational.{ℚ}
 use Rattle.linear_systems.specs.Tableau.{Tableau}
 use Rattle.linear_systems.specs.Rows.{basic_solution, Alike}
@@ -7,7 +7,7 @@ use Rattle.game_core.specs.Limits.{most_rows}
 use Rattle.sequence_forms.specs.Forms.{SequenceForm}
 use Rattle.sequence_forms.specs.Prices.{costs}
 use Rattle.sequence_forms.specs.Sides.{Side, sequences}
-use Rattle.lemke_pivot.specs.ProblemLaws.{CostsAreNotNegative}
+use Rattle.lemke_pivot.specs.ProblemLaws.{CostSumsAreNotNegative}
 use Rattle.lemke_pivot.specs.ProblemPaths.{start, w_of, z_of}
 use Rattle.lemke_pivot.specs.Problems.{costs_of, matrix, right_sides, size}
 use Rattle.lex_tableau.specs.Rows.{WholeTableau, IsTableau, tableau}
@@ -26,12 +26,13 @@ problem_size rows columns =
     + (sequences columns
     + (suc rows.sets + (suc rows.sets + (suc columns.sets + suc columns.sets))))
 
+-- how many rows a problem has
 abbrev pub size_of : Problem → ℕ
 size_of p = problem_size (side_of p.first) (side_of p.second)
 
 -- the start of the problem of two sides with these costs
-abbrev pub start_of : Side → Side → (ℕ → ℕ → ℚ) → (ℕ → ℕ → ℚ) → Tableau
-start_of rows columns one two =
+abbrev pub start_tableau : Side → Side → (ℕ → ℕ → ℚ) → (ℕ → ℕ → ℚ) → Tableau
+start_tableau rows columns one two =
     let s = costs_of rows columns one two in start (size s) (matrix s) (right_sides s)
 
 -- ---- what stands in the tableau
@@ -39,21 +40,24 @@ start_of rows columns one two =
 abbrev pub z_values : Problem → ℕ → ℚ
 z_values p i = basic_solution (tableau p.tableau) (z_of (size_of p) i)
 
+-- the first player's plan
 abbrev pub plan_one : Problem → ℕ → ℚ
 plan_one p q = z_values p q
 
+-- the second player's plan
 abbrev pub plan_two : Problem → ℕ → ℚ
 plan_two p q = z_values p (sequences (side_of p.first) + q)
 
 -- ---- problems
--- a tableau is the start of the problem of these sides, for some costs that are not negative
+-- a tableau is the start of the problem of these sides, for some costs whose sums are nowhere
+-- negative
 pub record IsStartFor (first second : SideData) (n : WholeTableau) : Type 0 where
   pub one : ℕ → ℕ → ℚ
   pub two : ℕ → ℕ → ℚ
-  pub costs : CostsAreNotNegative (costs_of (side_of first) (side_of second) one two)
-  pub begins : Alike (start_of (side_of first) (side_of second) one two) (tableau n)
+  pub costs : CostSumsAreNotNegative (costs_of (side_of first) (side_of second) one two)
+  pub begins : Alike (start_tableau (side_of first) (side_of second) one two) (tableau n)
   pub starts : (i : ℕ) → i < problem_size (side_of first) (side_of second)
-      → get_or n.starts i 0 ≡ w_of i
+      → slice_index_or n.starts i 0 ≡ w_of i
   pub rated : n.rated ≡ problem_size (side_of first) (side_of second)
   pub valid : IsTableau n
 
@@ -70,5 +74,5 @@ pub record IsProblemOfForm (f : SequenceForm) (greatest_one greatest_two : ℚ) 
   pub rows : f.rows ≡ side_of p.first
   pub columns : f.columns ≡ side_of p.second
   pub begins :
-      Alike (start_of f.rows f.columns (costs f 0 greatest_one) (costs f 1 greatest_two))
+      Alike (start_tableau f.rows f.columns (costs f 0 greatest_one) (costs f 1 greatest_two))
       (tableau p.tableau)

@@ -1,6 +1,6 @@
 -- The path over whole numbers: each pivot's steps fit, and it ends where z0 is 0 or at the first
 -- step that does not fit.
-use Rattle.std.specs.Prelude.{ℕ, suc, ◌<◌, ◌≤◌, ◌≡◌, ◌≢◌, ◌⊎◌, List, [], ◌∷◌, length, get_or}
+use Rattle.std.specs.Prelude.{ℕ, suc, ◌<◌, ◌≤◌, ◌≡◌, ◌≢◌, ◌⊎◌, List, [], ◌∷◌, length, slice_index_or}
 use Rattle.rational.specs.Rational.{ℚ, zero_ℚ}
 use Rattle.linear_systems.specs.Rows.{basic_solution, IsLexicographicRow, Alike}
 use Rattle.game_core.specs.Limits.{most_rows}
@@ -8,7 +8,7 @@ use Rattle.lex_tableau.specs.declared.unfit_pivot.UnfitPivot.{UnfitPivot}
 use Rattle.lex_tableau.specs.Rows.{WholeTableau, tableau, IsTableau}
 use Rattle.frac128.specs.Steps.{IsFirstUnfit}
 use Rattle.lex_tableau.specs.Pivots.{IsFittingPivot, pivot_number, steps_of_pivot}
-use Rattle.lemke_pivot.specs.Problems.{IsCopositive}
+use Rattle.lemke_pivot.specs.Problems.{ExcludesRays}
 use Rattle.lemke_pivot.specs.ProblemPaths.{w_of, z_of, z0_of, complement, start, IsFirstRow, Replaces}
 
 -- c enters s on its lexicographic row and l leaves; the steps of the pivot fit, and t is what it
@@ -58,14 +58,14 @@ EndsUnfit m n r stop =
     × IsFirstUnfit (steps_of_pivot m r n) stop.unfit)
     ⊎ ((earlier : List WholeTableau) × (t : WholeTableau) × StopsAt m n r stop earlier t)
 
--- m is the start of a copositive problem with n rows, and z0 enters at row r
+-- m is the start of a problem that excludes rays, with n rows, and z0 enters at row r
 pub record IsPathStart (n r : ℕ) (m : WholeTableau) : Type 0 where
   pub few : n ≤ most_rows
   pub matrix : ℕ → ℕ → ℚ
   pub right : ℕ → ℚ
   pub alike : Alike (start n matrix right) (tableau m)
-  pub copositive : IsCopositive n matrix right
+  pub excludes_rays : ExcludesRays n matrix right
   pub first : IsFirstRow n right r
-  pub starts : (i : ℕ) → i < n → get_or m.starts i 0 ≡ w_of i
+  pub starts : (i : ℕ) → i < n → slice_index_or m.starts i 0 ≡ w_of i
   pub rated : m.rated ≡ n
   pub valid : IsTableau m

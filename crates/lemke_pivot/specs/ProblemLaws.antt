@@ -18,6 +18,7 @@ NoBasisOccursTwice =
     (n : ℕ) (M : ℕ → ℕ → ℚ) (b : ℕ → ℚ) (r : ℕ) (ss : List Tableau) (t : Tableau) (c : ℕ)
     → IsFirstRow n b r → PathTo n M b r ss t c → AllPairs (λ x y. x ≢ y) (map is_basic (t ∷ ss))
 
+-- the path of a problem with n rows has at most 2^(2n + 2) pivots
 abbrev pub PathsAreShort : Type 0
 PathsAreShort =
     (n : ℕ) (M : ℕ → ℕ → ℚ) (b : ℕ → ℚ) (r : ℕ) (ss : List Tableau) (t : Tableau) (c : ℕ)
@@ -50,15 +51,16 @@ FirstRowsExist = (n : ℕ) (b : ℕ → ℚ) (i : ℕ) → i < n → b i <ℚ ze
 
 -- ---- two players
 -- the sum of both players' costs is nowhere negative
-abbrev pub CostsAreNotNegative : Costs → Type 0
-CostsAreNotNegative s = (i j : ℕ) → i < s.X → j < s.Y → zero_ℚ ≤ℚ s.one i j +ℚ s.two i j
+abbrev pub CostSumsAreNotNegative : Costs → Type 0
+CostSumsAreNotNegative s = (i j : ℕ) → i < s.X → j < s.Y → zero_ℚ ≤ℚ s.one i j +ℚ s.two i j
 
--- the problem of two sides with plans, whose costs are not negative, has no ray
+-- the problem of two sides with plans, where both players' costs sum to a negative number nowhere,
+-- has no ray
 abbrev pub NoRay : Type 0
 NoRay =
     (rows columns : Side) (one two : ℕ → ℕ → ℚ) (w z v u : ℕ → ℚ) (z0 u0 : ℚ)
     → let s = costs_of rows columns one two in HasFlow rows → HasFlow columns
-    → CostsAreNotNegative s
+    → CostSumsAreNotNegative s
     → IsRay (size s) (matrix s) (right_sides s) w z v u z0 u0 → ⊥
 
 -- so each variable that enters has a lexicographic row
@@ -66,7 +68,7 @@ abbrev pub AlwaysALeavingRow : Type 0
 AlwaysALeavingRow =
     (rows columns : Side) (one two : ℕ → ℕ → ℚ) (r : ℕ) (ss : List Tableau) (t : Tableau)
     (c col : ℕ) → let s = costs_of rows columns one two in
-    HasFlow rows → HasFlow columns → CostsAreNotNegative s
+    HasFlow rows → HasFlow columns → CostSumsAreNotNegative s
     → IsFirstRow (size s) (right_sides s) r → PathTo (size s) (matrix s) (right_sides s) r ss t c
     → basic_solution t (z0_of (size s)) ≢ zero_ℚ → col < t.width → t.nonbasic col ≡ c
     → (row : ℕ) × IsLexicographicRow (size s) (size s) w_of t col row

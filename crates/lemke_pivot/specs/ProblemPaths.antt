@@ -1,29 +1,32 @@
 -- The path of complementary pivots. Source: Lemke 1965; Koller, Megiddo and von Stengel 1996. Row i
 -- of a problem with n rows has the variables w_of i and z_of n i, which are complements; z0 comes
 -- last. Variables count from 1.
-use Rattle.std.specs.Prelude.{ℕ, suc, ◌<◌, ◌≡◌, ◌≢◌, ◌+◌, ◌-◌, eqb, leb, cond, Bool, false, List, [], ◌∷◌}
+use Rattle.std.specs.Prelude.{ℕ, suc, ◌<◌, ◌≡◌, ◌≢◌, ◌+◌, ◌-◌, nat_eq, nat_le, cond, Bool, false, List, [], ◌∷◌}
 use Rattle.rational.specs.Rational.{ℚ, neg_ℚ, zero_ℚ, one_ℚ, ◌≤ℚ◌, ◌<ℚ◌}
 use Rattle.linear_systems.specs.Tableau.{Tableau, pivot}
 use Rattle.linear_systems.specs.Rows.{basic_solution, IsLexicographicRow, Alike}
 use Rattle.lemke_pivot.specs.Values.{direction}
 use Rattle.lemke_pivot.specs.Problems.{IsSolution, IsRay}
 
+-- the variable w of row i
 abbrev pub w_of : ℕ → ℕ
 w_of i = suc i
 
+-- the variable z of row i
 abbrev pub z_of : ℕ → ℕ → ℕ
 z_of n i = suc (n + i)
 
+-- the variable z0
 abbrev pub z0_of : ℕ → ℕ
 z0_of n = suc (n + n)
 
 -- v is a w
 abbrev pub is_w : ℕ → ℕ → Bool
-is_w n v = cond (eqb v 0) false (leb v n)
+is_w n v = cond (nat_eq v 0) false (nat_le v n)
 
 -- w and z of a row are complements; any other number is its own
 abbrev pub complement : ℕ → ℕ → ℕ
-complement n v = cond (is_w n v) (v + n) (cond (eqb v 0) v (cond (leb v (n + n)) (v - n) v))
+complement n v = cond (is_w n v) (v + n) (cond (nat_eq v 0) v (cond (nat_le v (n + n)) (v - n) v))
 
 -- The tableau of w = b + M z + d z0, where d is all ones: each w is basic.
 abbrev pub start : ℕ → (ℕ → ℕ → ℚ) → (ℕ → ℚ) → Tableau
@@ -33,7 +36,7 @@ start n M b =
       width = suc n;
       basic = w_of;
       nonbasic = z_of n;
-      cell = λ i j. cond (eqb j n) (neg_ℚ one_ℚ) (neg_ℚ (M i j));
+      cell = λ i j. cond (nat_eq j n) (neg_ℚ one_ℚ) (neg_ℚ (M i j));
       right = b;
     }
 

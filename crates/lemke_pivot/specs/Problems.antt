@@ -30,9 +30,10 @@ pub record IsRay (n : ℕ) (M : ℕ → ℕ → ℚ) (b w z v u : ℕ → ℚ) (
   pub vz : (i : ℕ) → i < n → v i *ℚ z i ≡ zero_ℚ
   pub vu : (i : ℕ) → i < n → v i *ℚ u i ≡ zero_ℚ
 
--- z M z is not negative; and where u M u is 0, with u and M u not negative, M is skew at u and b u
--- is not negative
-pub record IsCopositive (n : ℕ) (M : ℕ → ℕ → ℚ) (b : ℕ → ℚ) : Type 0 where
+-- What excludes a secondary ray: M is copositive, that is z M z is not negative where z is not; and
+-- where u and M u are not negative and u M u is 0, M is skew at u and b u is not negative. Source:
+-- Koller, Megiddo and von Stengel 1996; Cottle, Pang and Stone 1992.
+pub record ExcludesRays (n : ℕ) (M : ℕ → ℕ → ℚ) (b : ℕ → ℚ) : Type 0 where
   pub square : (z : ℕ → ℚ) → AreNotNegative n z → zero_ℚ ≤ℚ bilinear n n M z z
   pub skew : (u : ℕ → ℚ) → AreNotNegative n u → AreNotNegative n (image n M u)
       → bilinear n n M u u ≡ zero_ℚ → (t : ℕ → ℚ)
@@ -76,48 +77,60 @@ costs_of rows columns one two =
 abbrev pub size : Costs → ℕ
 size s = s.X + (s.Y + (s.h + (s.h + (s.k + s.k))))
 
+-- six functions, each on the places of its block
 abbrev pub in_blocks : {A : Type 0} → Costs → (ℕ → A) → (ℕ → A) → (ℕ → A) → (ℕ → A) → (ℕ → A)
     → (ℕ → A) → ℕ → A
 in_blocks s x y p p' q q' =
     joined s.X x (joined s.Y y (joined s.h p (joined s.h p' (joined s.k q q'))))
 
--- the blocks of a vector; the first is the vector itself
+-- the block of y in a vector, which begins with that of x
 abbrev pub at_y : Costs → (ℕ → ℚ) → ℕ → ℚ
 at_y s z j = z (s.X + j)
 
+-- the block of P
 abbrev pub at_p : Costs → (ℕ → ℚ) → ℕ → ℚ
 at_p s z r = z (s.X + (s.Y + r))
 
+-- the block of P'
 abbrev pub at_p' : Costs → (ℕ → ℚ) → ℕ → ℚ
 at_p' s z r = z (s.X + (s.Y + (s.h + r)))
 
+-- the block of Q
 abbrev pub at_q : Costs → (ℕ → ℚ) → ℕ → ℚ
 at_q s z r = z (s.X + (s.Y + (s.h + (s.h + r))))
 
+-- the block of Q'
 abbrev pub at_q' : Costs → (ℕ → ℚ) → ℕ → ℚ
 at_q' s z r = z (s.X + (s.Y + (s.h + (s.h + (s.k + r)))))
 
--- the rows of M, block by block
+-- the rows of M in the block of x
 abbrev pub rows_x : Costs → ℕ → ℕ → ℚ
 rows_x s i = in_blocks s zeros (s.one i) (λ r. neg_ℚ (s.E r i)) (λ r. s.E r i) zeros zeros
 
+-- those of y
 abbrev pub rows_y : Costs → ℕ → ℕ → ℚ
 rows_y s j = in_blocks s (λ i. s.two i j) zeros zeros zeros (λ r. neg_ℚ (s.F r j)) (λ r. s.F r j)
 
+-- those of P
 abbrev pub rows_p : Costs → ℕ → ℕ → ℚ
 rows_p s r = in_blocks s (s.E r) zeros zeros zeros zeros zeros
 
+-- those of P'
 abbrev pub rows_p' : Costs → ℕ → ℕ → ℚ
 rows_p' s r = in_blocks s (λ i. neg_ℚ (s.E r i)) zeros zeros zeros zeros zeros
 
+-- those of Q
 abbrev pub rows_q : Costs → ℕ → ℕ → ℚ
 rows_q s r = in_blocks s zeros (s.F r) zeros zeros zeros zeros
 
+-- those of Q'
 abbrev pub rows_q' : Costs → ℕ → ℕ → ℚ
 rows_q' s r = in_blocks s zeros (λ j. neg_ℚ (s.F r j)) zeros zeros zeros zeros
 
+-- the matrix M, block by block
 unfoldable pub matrix : Costs → ℕ → ℕ → ℚ
 matrix s = in_blocks s (rows_x s) (rows_y s) (rows_p s) (rows_p' s) (rows_q s) (rows_q' s)
 
+-- the right sides b, block by block
 unfoldable pub right_sides : Costs → ℕ → ℚ
 right_sides s = in_blocks s zeros zeros (λ r. neg_ℚ (s.e r)) s.e (λ r. neg_ℚ (s.f r)) s.f

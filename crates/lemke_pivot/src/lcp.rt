@@ -10,7 +10,7 @@ ghost use Rattle.lex_tableau.specs.StartStops.{start_in};
 ghost use Rattle.lex_tableau.specs.declared.tableau.StartStop.TheVariants as start_stops;
 ghost use Rattle.rational.specs.Rational.{ℚ};
 ghost use Rattle.lemke_pivot.specs.Ends.{solved_in};
-ghost use Rattle.lemke_pivot.specs.ProblemLaws.{CostsAreNotNegative};
+ghost use Rattle.lemke_pivot.specs.ProblemLaws.{CostSumsAreNotNegative};
 ghost use Rattle.lemke_pivot.specs.Problems.{costs_of};
 ghost use Rattle.lemke_pivot.specs.Systems.{IsSystemFor};
 ghost use Rattle.lemke_pivot.specs.Parts.{plan_one, plan_two, problem_size, size_of};
@@ -119,7 +119,7 @@ impl Lcp {
         requires second_side { IsSideData second }
         requires few { problem_size (side_of first) (side_of second) ≤ most_rows }
         requires problem { (one two : ℕ → ℕ → ℚ)
-            × CostsAreNotNegative (costs_of (side_of first) (side_of second) one two)
+            × CostSumsAreNotNegative (costs_of (side_of first) (side_of second) one two)
             × IsSystemFor first second one two system.now }
         ensures first { IfOk result (λ lcp. lcp.first ≡ first) }
         ensures second { IfOk result (λ lcp. lcp.second ≡ second) }

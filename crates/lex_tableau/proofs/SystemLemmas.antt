@@ -11,7 +11,7 @@ use Rattle.linear_systems.specs.Rows.{Alike}
 use Rattle.linear_systems.proofs.AgreementLemmas.{alike_both}
 use Rattle.lex_tableau.specs.Rows.{WholeTableau, tableau, IsTableau}
 use Rattle.lex_tableau.specs.Starts.{LinearSystem, system_of, IsSystem, IsStartOf, cells_from, start_steps, start_rows_fit}
-use Rattle.lex_tableau.specs.StartStops.{rows_in, start_in, start_of, IsStarted}
+use Rattle.lex_tableau.specs.StartStops.{rows_in, start_in, start_of, IsStartTableau}
 use Rattle.lex_tableau.specs.declared.tableau.StartStop.TheVariants.{Unfit}
 use Rattle.frac128.proofs.FirstUnfitLemmas.{all_fit-single}
 use Rattle.lex_tableau.proofs.TableauLemmas.{determined}
@@ -58,9 +58,9 @@ starts_same s m n hm hn p q =
 -- a system has one start, or one step that is the first that does not fit
 pub start_in-single : (s : LinearSystem) → IsSingle (start_in s)
 start_in-single s =
-    bind-single (rows_in s) (λ _. such_that (IsStarted s))
+    bind-single (rows_in s) (λ _. such_that (IsStartTableau s))
     (refused_by-single (λ stop. Unfit stop.0 stop.1) (start_rows_fit (length s.basics) (length s.nonbasics + 1) s.cells) (all_fit-single (start_steps (length s.nonbasics + 1) s.cells) (range_with_len 0 (length s.basics))))
-    (λ _ _. such_that-single (IsStarted s) (λ m n h g. starts_same s m n h.valid g.valid h.start g.start))
+    (λ _ _. such_that-single (IsStartTableau s) (λ m n h g. starts_same s m n h.valid g.valid h.start g.start))
 
 -- the one system that is described has one start
 pub start_of-single : (Describes : LinearSystem → Type 0) → ((s t : LinearSystem) → Describes s → Describes t → s ≡ t) → IsSingle (start_of Describes)

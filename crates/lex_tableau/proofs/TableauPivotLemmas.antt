@@ -18,7 +18,7 @@ use Rattle.linear_systems.proofs.PivotLemmas.{pivot_solves, cell_rc, cell_r, cel
 use Rattle.lex_tableau.specs.Ratio.{variable_at, KeepsPositiveKeys}
 use Rattle.linear_systems.proofs.ReachedTableauLemmas.{reached_pivot, reached_alike}
 use Rattle.whole_rows.specs.Rows.{from_place, fraction, IsRow}
-use Rattle.lex_tableau.specs.Rows.{WholeTableau, HasSolutionsOf, numbers_of, row_of, tableau, IsTableau, IsPivotOf, with_variables_exchanged}
+use Rattle.lex_tableau.specs.Rows.{WholeTableau, HasSolutionsOf, whole_tableau, row_of, tableau, IsTableau, IsPivotOf, with_variables_exchanged}
 use Rattle.lex_tableau.specs.Pivots.{HasPivotRow, HasOtherRows}
 use Rattle.whole_rows.specs.PivotedRows.{IsPivotedRow, IsPivotRow}
 use Rattle.whole_rows.proofs.RowValueLemmas.{fraction_over}
@@ -142,7 +142,7 @@ pub rated_in : (n : WholeTableau) (r : ℕ) → IsTableau n → r < n.rated → 
 rated_in n r t h = let k : n.rated ≤ length n.basics = t.rated in omega arith
 
 -- the pivot, as the code copies the variables and exchanges two of them
-pub copied_pivot : (m : WholeTableau) (r c e l : ℕ) (ss bs ns : List ℕ) (k : ℕ) (xs : List ℤ) → IsTableau m → ss ≡ m.starts → bs ≡ m.basics → ns ≡ m.nonbasics → k ≡ m.rated → r < m.rated → c < length m.nonbasics → (tableau m).cell r c ≢ zero_ℚ → length xs ≡ length m.numbers → HasPivotRow m r c xs → HasOtherRows m r c xs → e ≡ get_or ns c e → l ≡ get_or bs r l → IsTableau (numbers_of ss (slice_set bs r e) (slice_set ns c l) k xs) × IsPivotOf m r c (numbers_of ss (slice_set bs r e) (slice_set ns c l) k xs)
+pub copied_pivot : (m : WholeTableau) (r c e l : ℕ) (ss bs ns : List ℕ) (k : ℕ) (xs : List ℤ) → IsTableau m → ss ≡ m.starts → bs ≡ m.basics → ns ≡ m.nonbasics → k ≡ m.rated → r < m.rated → c < length m.nonbasics → (tableau m).cell r c ≢ zero_ℚ → length xs ≡ length m.numbers → HasPivotRow m r c xs → HasOtherRows m r c xs → e ≡ get_or ns c e → l ≡ get_or bs r l → IsTableau (whole_tableau ss (slice_set bs r e) (slice_set ns c l) k xs) × IsPivotOf m r c (whole_tableau ss (slice_set bs r e) (slice_set ns c l) k xs)
 copied_pivot m r c e l ss bs ns k xs t hs hb hn hk hr hc ne sh own others he hl =
     subst (λ (n : WholeTableau). IsTableau n × IsPivotOf m r c n) (sym same) (pivot_is_tableau m r c xs t hr hc ne sh own others, is_pivot m r c xs t hr hc ne sh own others)
   where
@@ -152,10 +152,10 @@ copied_pivot m r c e l ss bs ns k xs t hs hb hn hk hr hc ne sh own others he hl 
     left : l ≡ get_or m.basics r 0
     left = hl ∙ ap (λ bs. get_or bs r l) hb ∙ get_or_default m.basics r l 0 (rated_in m r t hr)
 
-    same : numbers_of ss (slice_set bs r e) (slice_set ns c l) k xs ≡ with_variables_exchanged m r c xs
+    same : whole_tableau ss (slice_set bs r e) (slice_set ns c l) k xs ≡ with_variables_exchanged m r c xs
     same =
-        ap₂ (λ x y. numbers_of x y (slice_set ns c l) k xs) hs (ap₂ (λ x y. slice_set x r y) hb entered)
-        ∙ ap₂ (λ x y. numbers_of m.starts (slice_set m.basics r (get_or m.nonbasics c 0)) x y xs) (ap₂ (λ x y. slice_set x c y) hn left) hk
+        ap₂ (λ x y. whole_tableau x y (slice_set ns c l) k xs) hs (ap₂ (λ x y. slice_set x r y) hb entered)
+        ∙ ap₂ (λ x y. whole_tableau m.starts (slice_set m.basics r (get_or m.nonbasics c 0)) x y xs) (ap₂ (λ x y. slice_set x c y) hn left) hk
 
 -- a pivot keeps the solutions
 pub solutions_kept : (n m : WholeTableau) (r c : ℕ) → IsTableau n → r < n.rated → c < length n.nonbasics → (tableau n).cell r c ≢ zero_ℚ → IsPivotOf n r c m → HasSolutionsOf n m

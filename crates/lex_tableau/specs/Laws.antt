@@ -13,6 +13,6 @@ TableauxAreDetermined =
     (a b : WholeTableau) → IsTableau a → IsTableau b → a.starts ≡ b.starts → a.rated ≡ b.rated
     → Alike (tableau a) (tableau b) → a ≡ b
 
--- A system has one start, or one step of its rows is the first that does not fit.
+-- A system has at most one answer: a start, or the first step of its rows that does not fit.
 abbrev pub StartsAreSingle : Type 0
 StartsAreSingle = (s : LinearSystem) → IsSingle (start_in s)

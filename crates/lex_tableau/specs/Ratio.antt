@@ -6,7 +6,7 @@ use Rattle.rational.specs.Rational.{ℚ, frac, ◌*ℚ◌, inv_ℚ, zero_ℚ, �
 use Rattle.linear_systems.specs.Tableau.{Tableau}
 use Rattle.linear_systems.specs.Lex.{IsLexLess, IsLexPositive}
 use Rattle.linear_systems.specs.Rows.{key, HasDistinctVariables, IsLexicographicRow}
-use Rattle.lex_tableau.specs.Rows.{WholeTableau, tableau, tableau_of, IsReachedFrom}
+use Rattle.lex_tableau.specs.Rows.{WholeTableau, tableau, tableau_of}
 use Rattle.whole_rows.specs.Lists.{row_at}
 
 -- the variables of a list, one after the other
@@ -42,8 +42,7 @@ IsLeavingRow n col row =
 
 -- the row that leaves where a column enters, or none where no rated row has a positive entry there
 abbrev pub IsRatioRow : WholeTableau → ℕ → Option ℕ → Type 0
-IsRatioRow n col o =
-    MatchOption o ((i : ℕ) → i < n.rated → (tableau n).cell i col ≤ℚ zero_ℚ) (IsLeavingRow n col)
+IsRatioRow n col o = IsBest n.rated n.rated n.starts (tableau n) col o
 
 -- the keys of the rated rows are lexicographically positive
 abbrev pub HasPositiveKeys : WholeTableau → Type 0
@@ -54,7 +53,7 @@ HasPositiveKeys n =
 abbrev pub KeepsPositiveKeys : WholeTableau → ℕ → ℕ → WholeTableau → Type 0
 KeepsPositiveKeys n row col new = IsLeavingRow n col row → HasPositiveKeys n → HasPositiveKeys new
 
--- The same of the tableau with these starts, variables and numbers
+-- Of the tableau with these starts, variables and numbers
 
 -- n over the coefficient of row i is entry p of its key
 abbrev pub IsKeyNumber : List ℕ → List ℕ → List ℕ → List ℤ → ℕ → ℕ → ℤ → Type 0
@@ -62,31 +61,9 @@ IsKeyNumber starts basics nonbasics numbers i p n =
     frac n (nat_abs (row_at (length nonbasics + 2) numbers i 0))
     ≡ key (variable_at starts) (tableau_of basics nonbasics numbers) i p
 
--- the order of the quotients of rows i and k at entry p
-abbrev pub ComparesAt : List ℕ → List ℕ → List ℕ → List ℤ → ℕ → ℕ → ℕ → ℕ → Ordering → Type 0
-ComparesAt starts basics nonbasics numbers c i k p o =
-    Compares (quotient_of starts (tableau_of basics nonbasics numbers) c i p)
-    (quotient_of starts (tableau_of basics nonbasics numbers) c k p) o
-
--- the order of the quotients of rows i and k by their first n entries
-abbrev pub ComparesRows : ℕ → List ℕ → List ℕ → List ℕ → List ℤ → ℕ → ℕ → ℕ → Ordering → Type 0
-ComparesRows n starts basics nonbasics numbers c i k o =
-    LexCompares n (quotient_of starts (tableau_of basics nonbasics numbers) c i)
-    (quotient_of starts (tableau_of basics nonbasics numbers) c k) o
-
--- the lexicographic row among the first k rows
-abbrev pub IsBestOf : ℕ → ℕ → List ℕ → List ℕ → List ℕ → List ℤ → ℕ → Option ℕ → Type 0
-IsBestOf k rated starts basics nonbasics numbers c o =
-    IsBest k rated starts (tableau_of basics nonbasics numbers) c o
-
 -- row i has a positive entry in column c
 abbrev pub IsPositiveIn : List ℕ → List ℤ → ℕ → ℕ → Type 0
 IsPositiveIn nonbasics numbers i c = pos 0 <ℤ row_at (length nonbasics + 2) numbers i (c + 1)
-
--- pivots on the first rows led to it
-abbrev pub IsReachedBy : ℕ → List ℕ → List ℕ → List ℕ → List ℤ → Type 0
-IsReachedBy rated starts basics nonbasics numbers =
-    IsReachedFrom rated starts (tableau_of basics nonbasics numbers)
 
 -- no variable stands twice in it, whatever its numbers
 abbrev pub HasEachOnce : List ℕ → List ℕ → Type 0

@@ -16,8 +16,8 @@ pub record WholeTableau : Type 0 where
   pub numbers : List ℤ
 
 -- such a value, from its parts
-abbrev pub numbers_of : List ℕ → List ℕ → List ℕ → ℕ → List ℤ → WholeTableau
-numbers_of starts basics nonbasics rated numbers =
+abbrev pub whole_tableau : List ℕ → List ℕ → List ℕ → ℕ → List ℤ → WholeTableau
+whole_tableau starts basics nonbasics rated numbers =
     record {
       starts = starts;
       basics = basics;

@@ -13,14 +13,14 @@ rows_in s =
     refused_by (λ stop. Unfit stop.0 stop.1)
     (start_rows_fit (length s.basics) (length s.nonbasics + 1) s.cells)
 
--- n is the start of a system
-pub record IsStarted (s : LinearSystem) (n : WholeTableau) : Type 0 where
+-- n is a tableau, and the start of a system
+pub record IsStartTableau (s : LinearSystem) (n : WholeTableau) : Type 0 where
   pub start : IsStartOf s n
   pub valid : IsTableau n
 
 -- the start of a system, all steps of which fit
 abbrev pub start_in : LinearSystem → Answer StartStop WholeTableau
-start_in s = rows_in s >> such_that (IsStarted s)
+start_in s = rows_in s >> such_that (IsStartTableau s)
 
 -- the start of the system that is described
 abbrev pub start_of : (LinearSystem → Type 0) → Answer StartStop WholeTableau

@@ -17,8 +17,8 @@ pub record LinearSystem : Type 0 where
   pub rated : ℕ
 
 -- such a value, from its parts
-abbrev pub parts_of : List ℕ → List ℕ → List ℚ → ℕ → LinearSystem
-parts_of basics nonbasics cells rated =
+abbrev pub linear_system : List ℕ → List ℕ → List ℚ → ℕ → LinearSystem
+linear_system basics nonbasics cells rated =
     record { basics = basics; nonbasics = nonbasics; cells = cells; rated = rated }
 
 -- a system is stored as its three lists and a number
@@ -27,7 +27,7 @@ code_of_parts =
     code_by (List ℕ × (List ℕ × (List ℚ × ℕ)))
     (coded× (coded_list coded_ℕ) (coded× (coded_list coded_ℕ) (coded× (coded_list code_ℚ) coded_ℕ)))
     (λ s. (s.basics, (s.nonbasics, (s.cells, s.rated))))
-    (λ p. parts_of p.0 p.1.0 p.1.1.0 p.1.1.1) (λ _. refl)
+    (λ p. linear_system p.0 p.1.0 p.1.1.0 p.1.1.1) (λ _. refl)
 
 -- the tableau that a system is
 abbrev pub system_of : LinearSystem → Tableau
@@ -42,7 +42,7 @@ system_of s =
     }
 
 -- a system: no variable stands twice, each row has a cell for each column and a right side, and the
--- rated rows are among the rows
+-- rated rows are among the rows; variables and the number of rows are below 2^32
 pub record IsSystem (s : LinearSystem) : Type 0 where
   pub distinct : HasDistinctVariables (system_of s)
   pub shape : length s.cells ≡ length s.basics * (length s.nonbasics + 1)
@@ -51,7 +51,7 @@ pub record IsSystem (s : LinearSystem) : Type 0 where
   pub nonbasics_small : (j : ℕ) → get_or s.nonbasics j 0 < 2 ^ 32
   pub few : length s.basics < 2 ^ 32
 
--- the start of a system
+-- n has the fractions, variables and rated rows of a system
 pub record IsStartOf (s : LinearSystem) (n : WholeTableau) : Type 0 where
   pub fractions : Alike (system_of s) (tableau n)
   pub starts : n.starts ≡ s.basics

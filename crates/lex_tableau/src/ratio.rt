@@ -1,7 +1,8 @@
 // The lexicographic row of a column.
 ghost use Rattle.std.specs.Prelude.{◌≡◌, suc, pos, ◌+◌, ◌*◌, ◌<◌, ◌≤◌, ◌<ℤ◌, ◌≤ℤ◌, true, false, length};
 ghost use Rattle.lex_tableau.specs.Columns.{AreColumnsOf};
-ghost use Rattle.lex_tableau.specs.Ratio.{ComparesAt, ComparesRows, HasEachOnce, IsBestOf, IsKeyNumber, IsPositiveIn, IsReachedBy};
+ghost use Rattle.lex_tableau.specs.Ratio.{Compares, HasEachOnce, IsBest, IsKeyNumber, IsPositiveIn, LexCompares, quotient_of};
+ghost use Rattle.lex_tableau.specs.Rows.{IsReachedFrom, tableau_of};
 ghost use Rattle.whole_rows.specs.Lists.{AllPartsFit, AreRows, row_at};
 
 use std::cmp::Ordering;
@@ -64,8 +65,10 @@ fn compare_at(
     requires columns { AreColumnsOf nonbasics.now starts.now columns.now }
     requires positive { IsPositiveIn nonbasics.now numbers.now row column }
     requires best_positive { IsPositiveIn nonbasics.now numbers.now best column }
-    ensures { ComparesAt
-        starts.now basics.now nonbasics.now numbers.now column row best place result }
+    ensures { Compares
+        (quotient_of starts.now (tableau_of basics.now nonbasics.now numbers.now) column row place)
+        (quotient_of starts.now (tableau_of basics.now nonbasics.now numbers.now) column best place)
+        result }
 {
     let size = nonbasics.len() + 2;
     compare_quotients(
@@ -99,8 +102,10 @@ fn compare_rows(
     requires columns { AreColumnsOf nonbasics.now starts.now columns.now }
     requires positive { IsPositiveIn nonbasics.now numbers.now row column }
     requires best_positive { IsPositiveIn nonbasics.now numbers.now best column }
-    ensures { ComparesRows
-        (suc rated) starts.now basics.now nonbasics.now numbers.now column row best result }
+    ensures { LexCompares (suc rated)
+        (quotient_of starts.now (tableau_of basics.now nonbasics.now numbers.now) column row)
+        (quotient_of starts.now (tableau_of basics.now nonbasics.now numbers.now) column best)
+        result }
 {
     for place in 0..rated + 1 {
         match compare_at(
@@ -141,11 +146,13 @@ fn next_best(
     requires shape { length numbers.now ≡ length basics.now * (length nonbasics.now + 2) }
     requires fit { AllPartsFit numbers.now }
     requires are_rows { AreRows (length basics.now) (length nonbasics.now + 2) numbers.now }
-    requires reached { IsReachedBy rated starts.now basics.now nonbasics.now numbers.now }
+    requires reached { IsReachedFrom rated starts.now
+        (tableau_of basics.now nonbasics.now numbers.now) }
     requires columns { AreColumnsOf nonbasics.now starts.now columns.now }
-    requires best { IsBestOf row rated starts.now basics.now nonbasics.now numbers.now column best }
-    ensures { IsBestOf
-        (suc row) rated starts.now basics.now nonbasics.now numbers.now column result }
+    requires best { IsBest row rated starts.now
+        (tableau_of basics.now nonbasics.now numbers.now) column best }
+    ensures { IsBest (suc row) rated starts.now
+        (tableau_of basics.now nonbasics.now numbers.now) column result }
 {
     if !is_positive(numbers[row * (nonbasics.len() + 2) + (column + 1)]) {
         return best;
@@ -177,9 +184,11 @@ pub fn ratio_row(
     requires shape { length numbers.now ≡ length basics.now * (length nonbasics.now + 2) }
     requires fit { AllPartsFit numbers.now }
     requires are_rows { AreRows (length basics.now) (length nonbasics.now + 2) numbers.now }
-    requires reached { IsReachedBy rated starts.now basics.now nonbasics.now numbers.now }
+    requires reached { IsReachedFrom rated starts.now
+        (tableau_of basics.now nonbasics.now numbers.now) }
     requires columns { AreColumnsOf nonbasics.now starts.now columns.now }
-    ensures { IsBestOf rated rated starts.now basics.now nonbasics.now numbers.now column result }
+    ensures { IsBest rated rated starts.now
+        (tableau_of basics.now nonbasics.now numbers.now) column result }
 {
     let mut best = None;
     for row in 0..rated {

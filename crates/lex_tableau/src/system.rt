@@ -1,7 +1,7 @@
 // Systems of linear equations over fractions.
 ghost use Rattle.std.specs.Prelude.{◌≡◌, ◌+◌, ◌<◌, ◌^◌, IfOk};
 ghost use Rattle.lex_tableau.specs.Entries.{AreNumbered};
-ghost use Rattle.lex_tableau.specs.Starts.{IsSystem, parts_of};
+ghost use Rattle.lex_tableau.specs.Starts.{IsSystem, linear_system};
 
 use frac128::{Frac, Memory};
 use std::alloc::Global;
@@ -21,24 +21,24 @@ pub struct System {
 }
 
 impl Model for System {
-    ghost use Rattle.lex_tableau.specs.Starts.{LinearSystem, parts_of, code_of_parts, IsSystem};
+    ghost use Rattle.lex_tableau.specs.Starts.{LinearSystem, linear_system, code_of_parts, IsSystem};
 
     ghost Value = { LinearSystem };
 
     ghost coded = { code_of_parts };
 
-    ghost view = { λ s. parts_of s.basics.items s.nonbasics.items s.cells.items s.rated };
+    ghost view = { λ s. linear_system s.basics.items s.nonbasics.items s.cells.items s.rated };
 
     ghost invariant = { λ s. IsSystem
-        (parts_of s.basics.items s.nonbasics.items s.cells.items s.rated) };
+        (linear_system s.basics.items s.nonbasics.items s.cells.items s.rated) };
 }
 
 impl System {
     /// The system with these variables and cells. The cells stand row by row, with the right side
     /// last in each row. Takes no memory.
     pub fn new(basics: Vec<u32>, nonbasics: Vec<u32>, cells: Vec<Frac>, rated: usize) -> System
-        requires { IsSystem (parts_of basics.items nonbasics.items cells.items rated) }
-        ensures value { result ≡ parts_of basics.items nonbasics.items cells.items rated }
+        requires { IsSystem (linear_system basics.items nonbasics.items cells.items rated) }
+        ensures value { result ≡ linear_system basics.items nonbasics.items cells.items rated }
         ensures valid { IsSystem result }
     {
         System {
@@ -66,7 +66,7 @@ impl System {
     }
 }
 
-/// So many variables that are numbered one after another.
+/// The variables `first`, `first + 1` and so on, `count` of them.
 pub fn numbered(alloc: Global, first: u32, count: u32) -> Result<Vec<u32>, Memory>
     requires { first + count < 2 ^ 32 }
     ensures { IfOk result (λ numbers. AreNumbered first count numbers.items) }

@@ -27,7 +27,7 @@ use whole_rows::{fraction, write_pivot, write_starts};
 
 /// A system of linear equations after pivots. Row i says that its basic variable plus the sum of
 /// its entries times the nonbasic variables is its right side. Contracts see it as whole numbers,
-/// and `tableau` of them is the tableau of fractions.
+/// and `tableau` of them is the tableau of fractions. Rows and columns count from 0.
 #[derive(Debug, Drop)]
 pub struct Tableau {
     starts: Vec<u32>,
@@ -41,15 +41,15 @@ pub struct Tableau {
 
 impl Model for Tableau {
     ghost use Rattle.lex_tableau.specs.Columns.{AreColumnsOf};
-    ghost use Rattle.lex_tableau.specs.Rows.{WholeTableau, numbers_of, IsTableau};
+    ghost use Rattle.lex_tableau.specs.Rows.{WholeTableau, whole_tableau, IsTableau};
 
     ghost Value = { WholeTableau };
 
     ghost view = { λ t.
-        numbers_of t.starts.items t.basics.items t.nonbasics.items t.rated t.numbers.items };
+        whole_tableau t.starts.items t.basics.items t.nonbasics.items t.rated t.numbers.items };
 
     ghost invariant = { λ t.
-        IsTableau (numbers_of
+        IsTableau (whole_tableau
         t.starts.items t.basics.items t.nonbasics.items t.rated t.numbers.items)
         × AreColumnsOf t.nonbasics.items t.starts.items t.columns.items };
 }

@@ -43,7 +43,7 @@ ZerosDetermine =
     (s : Tableau) (p q : ℕ → ℚ) → IsExtremePoint s p → IsExtremePoint s q
     → ((v : ℕ) → IsVariableOf s v → p v ≡ zero_ℚ → q v ≡ zero_ℚ) → AreEqualAt s p q
 
--- A system has one list of vertices.
+-- A system has at most one list of vertices.
 abbrev pub OneListOfVertices : Type 0
 OneListOfVertices =
     (n : ℕ) (s : Tableau) (a b : List MarkedPoint) → AreVertices n s a → AreVertices n s b → a ≡ b

@@ -46,8 +46,8 @@ pub record BasisDetermines : Type 0 where
       → IsReached N m s u → HasSameBasis m t u → i < m → k < m → u.basic i ≡ t.basic k
       → u.right i ≡ t.right k
 
--- A row of a reached tableau that is not rated is the start's, and the rated rows of the start by
--- its coefficients of their basic variables.
+-- A row of a reached tableau that is not rated is the start's row plus the start's rated rows, each
+-- times the row's coefficient of that row's basic variable.
 abbrev pub LastRowIsStarts : Type 0
 LastRowIsStarts =
     (N m : ℕ) (s t : Tableau) (l : ℕ) (x : ℕ → ℚ) (y : ℚ) → IsStart N m s → m ≤ l → l < s.rows

@@ -7,7 +7,7 @@ use Rattle.linear_systems.specs.Lex.{IsLexPositive}
 use Rattle.linear_systems.specs.Rows.{key, IsLexicographicRow}
 use Rattle.linear_systems.specs.Reached.{IsStart, IsReached, IsVariableOf}
 
--- a start whose own solution is a point
+-- a start with all rows rated and no negative right side: its basic solution is feasible
 pub record IsFeasibleStart (N : ℕ) (s : Tableau) : Type 0 where
   pub start : IsStart N s.rows s
   pub right : (i : ℕ) → i < s.rows → zero_ℚ ≤ℚ s.right i

@@ -30,7 +30,8 @@ pub record IsReached (N m : ℕ) (s t : Tableau) : Type 0 where
   pub basic_below : (i : ℕ) → i < s.rows → t.basic i < N
   pub nonbasic_below : (j : ℕ) → j < s.width → t.nonbasic j < N
 
--- a system to begin with
+-- a system with m rated rows, those on which pivots are made; no variable stands twice, and all are
+-- below N
 pub record IsStart (N m : ℕ) (s : Tableau) : Type 0 where
   pub rated : m ≤ s.rows
   pub proper : HasDistinctVariables s

@@ -4,6 +4,7 @@ use Rattle.std.specs.Prelude.{ℕ, ◌<◌, ◌≡◌, eqb, cond}
 use Rattle.rational.specs.Rational.{ℚ, ◌+ℚ◌, ◌*ℚ◌, ◌-ℚ◌, neg_ℚ, inv_ℚ}
 use Rattle.rational.specs.Sum.{sum_to, change}
 
+-- a tableau: how many rows and columns, their variables, cells and right sides
 pub record Tableau : Type 0 where
   pub rows : ℕ
   pub width : ℕ
@@ -16,6 +17,7 @@ pub record Tableau : Type 0 where
 unfoldable pub left : Tableau → (ℕ → ℚ) → ℕ → ℚ
 left t x i = x (t.basic i) +ℚ sum_to t.width (λ j. t.cell i j *ℚ x (t.nonbasic j))
 
+-- the values x solve each row of t
 abbrev pub Solves : Tableau → (ℕ → ℚ) → Type 0
 Solves t x = (i : ℕ) → i < t.rows → left t x i ≡ t.right i
 

@@ -31,7 +31,7 @@ pub record IsMarkOf (n : ℕ) (s : Tableau) (x : ℕ → ℚ) (mark : MarkedPoin
 abbrev pub mask_of : MarkedPoint → ℕ
 mask_of mark = mark.low + 2 ^ 64 * mark.high
 
--- of some nonzero extreme point
+-- the mark of some nonzero extreme point
 pub record IsVertexMark (n : ℕ) (s : Tableau) (mark : MarkedPoint) : Type 0 where
   pub solution : ℕ → ℚ
   pub extreme : IsExtremePoint s solution

@@ -6,11 +6,12 @@ use Rattle.game_theory.specs.Mixed.{Mixed, IsValid}
 use Rattle.game_theory.specs.Trees.{IsTree as is_game_tree}
 use Rattle.game_theory.specs.Behaviour.{Behaviour, IsValid as is_valid_behaviour}
 use Rattle.game_theory.proofs.ProfileLineLemmas.{entries-injective}
+use Rattle.game_theory.specs.OwnSets.{action_counts}
 use Rattle.game_core.specs.Table.{GameTable, game_of, strategy_counts}
 use Rattle.game_core.specs.Tree.{GameTree, IsGameTree}
 use Rattle.game_core.specs.TreeGame.{game_of_tree}
 use Rattle.behaviour_profile.specs.EntryLaws.{TestedEntriesAreBehaviours, TestedEntriesAreProfiles}
-use Rattle.behaviour_profile.specs.EntryTests.{action_counts, profile_in}
+use Rattle.behaviour_profile.specs.EntryTests.{profile_in}
 use Rattle.behaviour_profile.proofs.ProfileAnswerLemmas.{passed_same}
 use Rattle.ne_printer.specs.ReadLines.{line_in}
 use Rattle.ne_printer.specs.TextLines.{lines_of}

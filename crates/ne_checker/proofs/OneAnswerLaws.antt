@@ -6,7 +6,7 @@ use Rattle.rational.specs.Rational.{ℚ}
 use Rattle.game_core.specs.Table.{GameTable, strategy_counts}
 use Rattle.game_core.specs.Tree.{GameTree, IsGameTree}
 use Rattle.game_core.specs.TreeGame.{game_of_tree}
-use Rattle.behaviour_profile.specs.EntryTests.{action_counts, profile_in}
+use Rattle.behaviour_profile.specs.EntryTests.{profile_in}
 use Rattle.ne_printer.specs.ReadLines.{line_in}
 use Rattle.ne_printer.proofs.LinesReadLemmas.{line_told}
 use Rattle.game_core.specs.Limits.{limited_text}
@@ -22,6 +22,7 @@ use Rattle.verdicts.proofs.TableSingleLemmas.{verdict_once}
 use Rattle.ne_checker.specs.LineChecks.{faulty, limited, line_entries, table_judged, table_line, tree_judged, tree_line, unread, TableChecksAreSingle, TreeChecksAreSingle}
 use Rattle.ne_checker.specs.Lines.{lines_answer}
 use Rattle.ne_printer.specs.TextLines.{lines_of}
+use Rattle.game_theory.specs.OwnSets.{action_counts}
 use Rattle.ne_checker.specs.Texts.{better_text, equilibrium_text, table_told, tree_told}
 use Rattle.ne_checker.specs.declared.stops.CheckStop.{CheckStop}
 use Rattle.ne_checker.specs.declared.stops.CheckStop.TheVariants as stops

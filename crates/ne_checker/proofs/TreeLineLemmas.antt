@@ -5,10 +5,11 @@ use Rattle.frac128.specs.declared.steps.Unfit.{Unfit}
 use Rattle.game_theory.specs.Behaviour.{Behaviour, IsValid}
 use Rattle.game_theory.specs.TreeEntries.{tree_entries}
 use Rattle.game_theory.specs.Trees.{IsTree as is_game_tree}
+use Rattle.game_theory.specs.OwnSets.{action_counts}
 use Rattle.game_core.specs.Tree.{GameTree}
 use Rattle.game_core.specs.TreeGame.{game_of_tree}
 use Rattle.behaviour_profile.specs.EntryLaws.{TestedEntriesAreBehaviours}
-use Rattle.behaviour_profile.specs.EntryTests.{action_counts, profile_in}
+use Rattle.behaviour_profile.specs.EntryTests.{profile_in}
 use Rattle.behaviour_profile.proofs.ProfileAnswerLemmas.{passed_same}
 use Rattle.ne_printer.specs.ReadLines.{IsLine}
 use Rattle.verdicts.specs.TreeVerdicts.{tree_verdict}

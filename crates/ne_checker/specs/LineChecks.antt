@@ -6,7 +6,7 @@ use Rattle.game_core.specs.Table.{GameTable, strategy_counts}
 use Rattle.game_core.specs.Limits.{limited_text}
 use Rattle.game_core.specs.Tree.{GameTree, IsGameTree}
 use Rattle.game_core.specs.TreeGame.{game_of_tree}
-use Rattle.behaviour_profile.specs.EntryTests.{action_counts, profile_in}
+use Rattle.behaviour_profile.specs.EntryTests.{profile_in}
 use Rattle.behaviour_profile.specs.declared.entries.ProfileFault.{ProfileFault}
 use Rattle.behaviour_profile.specs.declared.entries.ProfileFault.TheVariants as faults
 use Rattle.ne_printer.specs.ReadLines.{line_in}
@@ -17,6 +17,7 @@ use Rattle.verdicts.specs.TreeVerdicts.{tree_verdict}
 use Rattle.verdicts.specs.TreeVerdictLaws.{AllRecall}
 use Rattle.ne_checker.specs.Lines.{lines_answer}
 use Rattle.ne_printer.specs.TextLines.{lines_of}
+use Rattle.game_theory.specs.OwnSets.{action_counts}
 use Rattle.ne_checker.specs.Texts.{table_told, tree_told}
 use Rattle.ne_checker.specs.declared.stops.CheckStop.{CheckStop}
 use Rattle.ne_checker.specs.declared.stops.CheckStop.TheVariants as stops

@@ -63,7 +63,7 @@ pub record IsEntry (q : ℚ) : Type 0 where
   pub not_negative : pos 0 ≤ℤ q.num
   pub fits : Fits q
 
--- A line is read in one way.
+-- A line has at most one answer: its entries, or that it has none.
 abbrev pub LinesAreSingle : Type 0
 LinesAreSingle = (line : List ℕ) → IsSingle (line_in line)
 

@@ -1,4 +1,4 @@
--- Counts of faults. A count never falls and stands still at 2^64 - 1.
+-- Counts of faults, of selections and of ends. A count never falls and stands still at 2^64 - 1.
 use Rattle.std.specs.Prelude.{ℕ, ◌≡◌, ◌⊎◌, ◌-◌, ◌^◌, ◌<◌, ◌≤◌, ◌+◌, min, OnOk, OnErr}
 use Rattle.std.specs.Prelude.{Result}
 
@@ -6,12 +6,16 @@ use Rattle.std.specs.Prelude.{Result}
 abbrev pub Rose : ℕ → ℕ → Type 0
 Rose before now = (before < now) ⊎ (now ≡ 2 ^ 64 - 1)
 
--- what a call that may fail does to its count: an Ok leaves it as it was, and a refusal comes only where it rose
-pub record Counts {T E : Type 0} (before now : ℕ) (result : Result T E) : Type 0 where
-  pub never_falls : before ≤ now
-  pub same_at_ok : OnOk result (now ≡ before)
-  pub rose_at_err : OnErr result (Rose before now)
+-- a count of so many more
+abbrev pub count_of_more : ℕ → ℕ → ℕ
+count_of_more n more = min (n + more) (2 ^ 64 - 1)
 
 -- a count of one more
 abbrev pub next_count : ℕ → ℕ
-next_count n = min (n + 1) (2 ^ 64 - 1)
+next_count n = count_of_more n 1
+
+-- what a call that may fail does to its count: an Ok leaves it as it was, and a refusal makes it one more
+pub record Counts {T E : Type 0} (before now : ℕ) (result : Result T E) : Type 0 where
+  pub never_falls : before ≤ now
+  pub same_at_ok : OnOk result (now ≡ before)
+  pub next_at_err : OnErr result (now ≡ next_count before)

@@ -1,13 +1,14 @@
 -- What contracts see of inputs in memory.
-use Rattle.std.specs.Prelude.{ℕ, ◌≡◌, List, [], ◌∷◌, Option, None, Some, drop, unwrap_or, option_and_then, if◌then◌else◌}
+use Rattle.std.specs.Prelude.{ℕ, ◌≡◌, Bool, List, [], ◌∷◌, Option, None, Some, drop, unwrap_or, option_and_then, if◌then◌else◌}
 use Rattle.std.specs.Str.{bytes_eq}
 use Rattle.std.proofs.Common.{ap, ◌∙◌}
 use Rattle.std.proofs.Math.Seq.{drop-nil}
 use Rattle.outside.specs.Inputs.{InputName}
 
 -- the bytes under no name, the names with their bytes, the numbers of the calls that fail, how many calls there
--- were, the selected and the failed input, how many bytes of the selected one are read, how many
--- selections were made, and how many calls of each kind have failed
+-- were, the selected and the failed input, how many bytes of the selected one are read, whether its end was
+-- met, how many selections were made, in how many of them the end was met, and how many calls of each kind
+-- have failed
 pub record InputsState : Type 0 where
   pub plain : List ℕ
   pub named : List (List ℕ × List ℕ)
@@ -16,7 +17,9 @@ pub record InputsState : Type 0 where
   pub selected : Option InputName
   pub failed : Option InputName
   pub position : ℕ
+  pub at_end : Bool
   pub selections : ℕ
+  pub ends : ℕ
   pub open_faults : ℕ
   pub read_faults : ℕ
 

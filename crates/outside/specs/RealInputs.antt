@@ -3,13 +3,16 @@ use Rattle.std.specs.Prelude.{ℕ, Bool, List, Option, is_some, unwrap_or, optio
 use Rattle.outside.specs.Inputs.{InputName}
 
 -- the bytes left of standard input and of the open file, where they are known, the selected and the failed
--- input, how many selections were made, and how many calls of each kind have failed
+-- input, whether the end of the selected one was met, how many selections were made, in how many of them the
+-- end was met, and how many calls of each kind have failed
 pub record OpenState : Type 0 where
   pub standard : Option (List ℕ)
   pub file : Option (Option (List ℕ))
   pub selected : Option InputName
   pub failed : Option InputName
+  pub at_end : Bool
   pub selections : ℕ
+  pub ends : ℕ
   pub open_faults : ℕ
   pub read_faults : ℕ
 

@@ -1,9 +1,9 @@
 // Named inputs, one of which is selected and read.
-ghost use Rattle.std.specs.Prelude.{◌≡◌, Some, None, Ok, OnOk, OnErr, option_map, string_bytes};
+ghost use Rattle.std.specs.Prelude.{◌≡◌, ◌||◌, false, length, Some, None, Ok, IfOk, OnOk, OnErr, option_map, string_bytes};
 ghost use Rattle.std.specs.Io.{ReadsAtMost};
 ghost use Rattle.std.specs.Io.KnownBytes.{ReadConsumes, IsAtEnd};
 ghost use Rattle.outside.specs.Counts.{Counts, next_count};
-ghost use Rattle.outside.specs.Inputs.{InputName, InputsSeen};
+ghost use Rattle.outside.specs.Inputs.{InputName, InputsSeen, ends_after, meets_end};
 
 /// An input could not be opened.
 #[derive(Clone, Copy, Debug, PartialEq, Eq)]
@@ -15,12 +15,14 @@ pub struct ReadFailed;
 
 /// Inputs by name, and one without a name. At most one of them is selected, and only that one is read.
 pub trait Inputs {
-    /// What can be seen of them: bytes where they are known, the selected and the failed input, and the counts of
-    /// selections and of failed calls. A count stands still at 2^64 - 1.
+    /// What can be seen of them: bytes where they are known, the selected and the failed input, whether the end
+    /// of the selected one was met, and the counts of selections, of those in which the end was met, and of failed
+    /// calls. A count stands still at 2^64 - 1.
     ghost seen: { Self → InputsSeen };
 
-    /// Selects an input, of which all bytes are then left. A name is kept and not copied. `OpenFailed` comes
-    /// only where `open_faults` rose in this call; then the input is the failed one, and nothing is selected.
+    /// Selects an input, of which all bytes are then left, and whose end was not met yet. A name is kept and not
+    /// copied. `OpenFailed` counts one more in `open_faults`; then the input is the failed one, and nothing is
+    /// selected.
     fn select(&mut self, name: Option<String>) -> Result<(), OpenFailed>
         ensures selects { OnOk result ((seen self.new).selected
             ≡ Some (option_map string_bytes name)) }
@@ -31,14 +33,16 @@ pub trait Inputs {
             ≡ Some (option_map string_bytes name)) }
         ensures selects_nothing { OnErr result ((seen self.new).selected ≡ None) }
         ensures held { (n : InputName) → (seen self.new).held n ≡ (seen self.old).held n }
+        ensures not_at_end { (seen self.new).at_end ≡ false }
         ensures selections { (seen self.new).selections ≡ next_count (seen self.old).selections }
+        ensures ends { (seen self.new).ends ≡ (seen self.old).ends }
         ensures counts { Counts (seen self.old).open_faults (seen self.new).open_faults result }
         ensures other_count { (seen self.new).read_faults ≡ (seen self.old).read_faults };
 
     /// Reads the next bytes of the selected input to the front of `buf`, and answers how many. 0 comes for
-    /// a buffer that is not empty only at the end of the input. With nothing selected it answers 0.
-    /// `ReadFailed` comes only where an input was selected and `read_faults` rose in this call; that input
-    /// is then the failed one, and nothing is selected.
+    /// a buffer that is not empty only at the end of the input, which is thereby met, and which is counted once in
+    /// each selection. With nothing selected it answers 0. `ReadFailed` comes only where an input was selected, and
+    /// counts one more in `read_faults`; that input is then the failed one, and nothing is selected.
     fn read(&mut self, buf: &mut [u8]) -> Result<usize, ReadFailed>
         ensures bound { ReadsAtMost result buf.new }
         ensures bytes { OnOk result
@@ -49,7 +53,13 @@ pub trait Inputs {
         ensures fails { OnErr result ((seen self.new).failed ≡ (seen self.old).selected) }
         ensures selects_nothing { OnErr result ((seen self.new).selected ≡ None) }
         ensures held { (n : InputName) → (seen self.new).held n ≡ (seen self.old).held n }
+        ensures at_end { IfOk result (λ count. (seen self.new).at_end
+            ≡ ((seen self.old).at_end
+            || meets_end (seen self.old).selected (length buf.old) count)) }
+        ensures not_at_end { OnErr result ((seen self.new).at_end ≡ false) }
         ensures selections { (seen self.new).selections ≡ (seen self.old).selections }
+        ensures ends { (seen self.new).ends
+            ≡ ends_after (seen self.old).at_end (seen self.new).at_end (seen self.old).ends }
         ensures counts { Counts (seen self.old).read_faults (seen self.new).read_faults result }
         ensures other_count { (seen self.new).open_faults ≡ (seen self.old).open_faults };
 

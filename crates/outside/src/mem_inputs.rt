@@ -1,10 +1,10 @@
 // Inputs in memory.
-ghost use Rattle.std.specs.Prelude.{◌≡◌, ◌↔◌, ◌⊎◌, ◌+◌, ◌<◌, ◌^◌, [], length, map, min, take, drop, ◌++◌, Some, None, Ok, IsTrue, IsErr, IsSome, IfOk, OnOk, OnErr, Contains, option_map, string_bytes};
+ghost use Rattle.std.specs.Prelude.{◌≡◌, ◌↔◌, ◌⊎◌, ◌+◌, ◌<◌, ◌^◌, ◌||◌, false, [], length, map, min, take, drop, ◌++◌, Some, None, Ok, IsTrue, IsErr, IsSome, IfOk, OnOk, OnErr, Contains, option_map, string_bytes};
 ghost use Rattle.std.specs.Option.{option_copied};
 ghost use Rattle.std.specs.Io.{ReadsAtMost};
 ghost use Rattle.std.specs.Io.KnownBytes.{ReadConsumes};
 ghost use Rattle.outside.specs.Counts.{Counts, next_count};
-ghost use Rattle.outside.specs.Inputs.{InputName};
+ghost use Rattle.outside.specs.Inputs.{InputName, ends_after, meets_end};
 ghost use Rattle.outside.specs.MemInputs.{first_named, bytes_held, bytes_left, bytes_left-idle};
 
 use crate::inputs::{Inputs, OpenFailed, ReadFailed};
@@ -22,7 +22,9 @@ pub struct MemInputs {
     selected: Option<Option<String>>,
     failed: Option<Option<String>>,
     position: usize,
+    at_end: bool,
     selections: u64,
+    ends: u64,
     open_faults: u64,
     read_faults: u64,
 }
@@ -41,7 +43,9 @@ impl Model for MemInputs {
       selected = option_map (option_map string_bytes) s.selected;
       failed = option_map (option_map string_bytes) s.failed;
       position = s.position;
+      at_end = s.at_end;
       selections = s.selections;
+      ends = s.ends;
       open_faults = s.open_faults;
       read_faults = s.read_faults;
     } };
@@ -60,7 +64,9 @@ impl MemInputs {
               selected = None;
               failed = None;
               position = 0;
+              at_end = false;
               selections = 0;
+              ends = 0;
               open_faults = 0;
               read_faults = 0;
             } }
@@ -70,7 +76,9 @@ impl MemInputs {
         ensures left { (⟦<MemInputs as Inputs>⟧.seen result).left ≡ Some [] }
         ensures selected { (⟦<MemInputs as Inputs>⟧.seen result).selected ≡ None }
         ensures failed { (⟦<MemInputs as Inputs>⟧.seen result).failed ≡ None }
+        ensures not_at_end { (⟦<MemInputs as Inputs>⟧.seen result).at_end ≡ false }
         ensures selections { (⟦<MemInputs as Inputs>⟧.seen result).selections ≡ 0 }
+        ensures ends { (⟦<MemInputs as Inputs>⟧.seen result).ends ≡ 0 }
         ensures open_faults { (⟦<MemInputs as Inputs>⟧.seen result).open_faults ≡ 0 }
         ensures read_faults { (⟦<MemInputs as Inputs>⟧.seen result).read_faults ≡ 0 }
     {
@@ -82,7 +90,9 @@ impl MemInputs {
             selected: None,
             failed: None,
             position: 0,
+            at_end: false,
             selections: 0,
+            ends: 0,
             open_faults: 0,
             read_faults: 0,
         }
@@ -119,6 +129,22 @@ impl MemInputs {
         };
         after(bytes, self.position)
     }
+
+    // Counts the end of the selected input, where a read with this room that answered `count` met it first.
+    fn count_end(&mut self, room: usize, count: usize)
+        requires selected { IsSome self.old.selected }
+        ensures at_end { self.new.at_end
+            ≡ (self.old.at_end || meets_end self.old.selected room count) }
+        ensures ends { self.new.ends
+            ≡ ends_after self.old.at_end self.new.at_end self.old.ends }
+        ensures others { self.new
+            ≡ record self.old { at_end = self.new.at_end; ends = self.new.ends } }
+    {
+        if count == 0 && room > 0 && !self.at_end {
+            self.at_end = true;
+            self.ends = self.ends.saturating_add(1);
+        }
+    }
 }
 
 impl Inputs for MemInputs {
@@ -127,7 +153,9 @@ impl Inputs for MemInputs {
       left = Some (bytes_left s);
       selected = s.selected;
       failed = s.failed;
+      at_end = s.at_end;
       selections = s.selections;
+      ends = s.ends;
       open_faults = s.open_faults;
       read_faults = s.read_faults;
     } };
@@ -143,7 +171,9 @@ impl Inputs for MemInputs {
         ensures held { (n : InputName)
             → bytes_held self.new.plain self.new.named n
             ≡ bytes_held self.old.plain self.old.named n }
+        ensures not_at_end { self.new.at_end ≡ false }
         ensures selections { self.new.selections ≡ next_count self.old.selections }
+        ensures ends { self.new.ends ≡ self.old.ends }
         ensures counts { Counts self.old.open_faults self.new.open_faults result }
         ensures other_count { self.new.read_faults ≡ self.old.read_faults }
 
@@ -156,6 +186,7 @@ impl Inputs for MemInputs {
               calls = next_count self.old.calls;
               selected = Some (option_map string_bytes name);
               position = 0;
+              at_end = false;
               selections = next_count self.old.selections;
             }) }
         ensures refused { OnErr result
@@ -164,6 +195,7 @@ impl Inputs for MemInputs {
               selected = None;
               failed = Some (option_map string_bytes name);
               position = 0;
+              at_end = false;
               selections = next_count self.old.selections;
               open_faults = next_count self.old.open_faults;
             }) }
@@ -172,6 +204,7 @@ impl Inputs for MemInputs {
         let absent = self.bytes_of(&name).is_none();
         self.selections = self.selections.saturating_add(1);
         self.position = 0;
+        self.at_end = false;
         if fails || absent {
             self.selected = None;
             self.failed = Some(name);
@@ -197,7 +230,12 @@ impl Inputs for MemInputs {
         ensures held { (n : InputName)
             → bytes_held self.new.plain self.new.named n
             ≡ bytes_held self.old.plain self.old.named n }
+        ensures at_end { IfOk result (λ count. self.new.at_end
+            ≡ (self.old.at_end || meets_end self.old.selected (length buf.old) count)) }
+        ensures not_at_end { OnErr result (self.new.at_end ≡ false) }
         ensures selections { self.new.selections ≡ self.old.selections }
+        ensures ends { self.new.ends
+            ≡ ends_after self.old.at_end self.new.at_end self.old.ends }
         ensures counts { Counts self.old.read_faults self.new.read_faults result }
         ensures other_count { self.new.open_faults ≡ self.old.open_faults }
 
@@ -210,12 +248,15 @@ impl Inputs for MemInputs {
             (λ n. self.new ≡ record self.old {
               calls = next_count self.old.calls;
               position = self.old.position + n;
+              at_end = self.new.at_end;
+              ends = self.new.ends;
             }) }
         ensures refused { OnErr result
             (self.new ≡ record self.old {
               calls = next_count self.old.calls;
               selected = None;
               failed = self.old.selected;
+              at_end = false;
               read_faults = next_count self.old.read_faults;
             }) }
         ensures unfilled { OnErr result (buf.new ≡ buf.old) }
@@ -226,11 +267,13 @@ impl Inputs for MemInputs {
         }
         if fails {
             self.failed = self.selected.take();
+            self.at_end = false;
             self.read_faults = self.read_faults.saturating_add(1);
             return Err(ReadFailed);
         }
         let count = copy_front(self.rest(), buf);
         self.position += count;
+        self.count_end(buf.len(), count);
         Ok(count)
     }
 

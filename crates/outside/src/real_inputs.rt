@@ -1,8 +1,9 @@
 // Inputs over files and standard input.
-ghost use Rattle.std.specs.Prelude.{◌≡◌, true, Some, None, Ok, IsSome, IsNone, IfOk, OnOk, OnErr, is_some, option_map, string_bytes};
+ghost use Rattle.std.specs.Prelude.{◌≡◌, ◌||◌, false, length, true, Some, None, Ok, IsSome, IsNone, IfOk, OnOk, OnErr, is_some, option_map, string_bytes};
 ghost use Rattle.std.specs.Io.{ReadsAtMost};
 ghost use Rattle.std.specs.Io.KnownBytes.{ReadConsumes};
 ghost use Rattle.outside.specs.Counts.{Counts, next_count};
+ghost use Rattle.outside.specs.Inputs.{ends_after, meets_end};
 ghost use Rattle.outside.specs.RealInputs.{source_left, is_named};
 
 use crate::inputs::{Inputs, OpenFailed, ReadFailed};
@@ -22,7 +23,9 @@ pub struct RealInputs<'a, R: Files + Input + Drop> {
     file: Option<R::File>,
     selected: Option<Option<String>>,
     failed: Option<Option<String>>,
+    at_end: bool,
     selections: u64,
+    ends: u64,
     open_faults: u64,
     read_faults: u64,
 }
@@ -38,7 +41,9 @@ impl<'a, R: Files + Input + Drop> Model for RealInputs<'a, R> {
       file = option_map R.File.Read.remaining s.file;
       selected = option_map (option_map string_bytes) s.selected;
       failed = option_map (option_map string_bytes) s.failed;
+      at_end = s.at_end;
       selections = s.selections;
+      ends = s.ends;
       open_faults = s.open_faults;
       read_faults = s.read_faults;
     } };
@@ -51,7 +56,9 @@ impl<'a, R: Files + Input + Drop> RealInputs<'a, R> {
     pub fn new(rt: &'a R) -> RealInputs<'a, R>
         ensures selected { (⟦<RealInputs<'a, R> as Inputs>⟧.seen result).selected ≡ None }
         ensures failed { (⟦<RealInputs<'a, R> as Inputs>⟧.seen result).failed ≡ None }
+        ensures not_at_end { (⟦<RealInputs<'a, R> as Inputs>⟧.seen result).at_end ≡ false }
         ensures selections { (⟦<RealInputs<'a, R> as Inputs>⟧.seen result).selections ≡ 0 }
+        ensures ends { (⟦<RealInputs<'a, R> as Inputs>⟧.seen result).ends ≡ 0 }
         ensures open_faults { (⟦<RealInputs<'a, R> as Inputs>⟧.seen result).open_faults ≡ 0 }
         ensures read_faults { (⟦<RealInputs<'a, R> as Inputs>⟧.seen result).read_faults ≡ 0 }
         ensures no_file { result.file ≡ None }
@@ -62,9 +69,27 @@ impl<'a, R: Files + Input + Drop> RealInputs<'a, R> {
             file: None,
             selected: None,
             failed: None,
+            at_end: false,
             selections: 0,
+            ends: 0,
             open_faults: 0,
             read_faults: 0,
+        }
+    }
+
+    // Counts the end of the selected input, where a read with this room that answered `count` met it first.
+    fn count_end(&mut self, room: usize, count: usize)
+        requires selected { IsSome self.old.selected }
+        ensures at_end { self.new.at_end
+            ≡ (self.old.at_end || meets_end self.old.selected room count) }
+        ensures ends { self.new.ends
+            ≡ ends_after self.old.at_end self.new.at_end self.old.ends }
+        ensures others { self.new
+            ≡ record self.old { at_end = self.new.at_end; ends = self.new.ends } }
+    {
+        if count == 0 && room > 0 && !self.at_end {
+            self.at_end = true;
+            self.ends = self.ends.saturating_add(1);
         }
     }
 }
@@ -75,7 +100,9 @@ impl<'a, R: Files + Input + Drop> Inputs for RealInputs<'a, R> {
       left = None;
       selected = s.selected;
       failed = s.failed;
+      at_end = s.at_end;
       selections = s.selections;
+      ends = s.ends;
       open_faults = s.open_faults;
       read_faults = s.read_faults;
     } };
@@ -85,7 +112,9 @@ impl<'a, R: Files + Input + Drop> Inputs for RealInputs<'a, R> {
         ensures failed_stays { OnOk result (self.new.failed ≡ self.old.failed) }
         ensures fails { OnErr result (self.new.failed ≡ Some (option_map string_bytes name)) }
         ensures selects_nothing { OnErr result (self.new.selected ≡ None) }
+        ensures not_at_end { self.new.at_end ≡ false }
         ensures selections { self.new.selections ≡ next_count self.old.selections }
+        ensures ends { self.new.ends ≡ self.old.ends }
         ensures counts { Counts self.old.open_faults self.new.open_faults result }
         ensures other_count { self.new.read_faults ≡ self.old.read_faults }
 
@@ -95,6 +124,7 @@ impl<'a, R: Files + Input + Drop> Inputs for RealInputs<'a, R> {
             (self.new ≡ record self.old {
               file = self.new.file;
               selected = Some (option_map string_bytes name);
+              at_end = false;
               selections = next_count self.old.selections;
             }) }
         ensures refused { OnErr result
@@ -102,11 +132,13 @@ impl<'a, R: Files + Input + Drop> Inputs for RealInputs<'a, R> {
               file = None;
               selected = None;
               failed = Some (option_map string_bytes name);
+              at_end = false;
               selections = next_count self.old.selections;
               open_faults = next_count self.old.open_faults;
             }) }
     {
         self.selections = self.selections.saturating_add(1);
+        self.at_end = false;
         match open_named(self.rt, &name) {
             Ok(file) => {
                 self.file = file;
@@ -130,7 +162,12 @@ impl<'a, R: Files + Input + Drop> Inputs for RealInputs<'a, R> {
         ensures idle { self.old.selected ≡ None → result ≡ Ok 0 }
         ensures fails { OnErr result (self.new.failed ≡ self.old.selected) }
         ensures selects_nothing { OnErr result (self.new.selected ≡ None) }
+        ensures at_end { IfOk result (λ count. self.new.at_end
+            ≡ (self.old.at_end || meets_end self.old.selected (length buf.old) count)) }
+        ensures not_at_end { OnErr result (self.new.at_end ≡ false) }
         ensures selections { self.new.selections ≡ self.old.selections }
+        ensures ends { self.new.ends
+            ≡ ends_after self.old.at_end self.new.at_end self.old.ends }
         ensures counts { Counts self.old.read_faults self.new.read_faults result }
         ensures other_count { self.new.open_faults ≡ self.old.open_faults }
 
@@ -146,6 +183,7 @@ impl<'a, R: Files + Input + Drop> Inputs for RealInputs<'a, R> {
               file = None;
               selected = None;
               failed = self.old.selected;
+              at_end = false;
               read_faults = next_count self.old.read_faults;
             }) }
     {
@@ -156,10 +194,14 @@ impl<'a, R: Files + Input + Drop> Inputs for RealInputs<'a, R> {
             Some(file) => read_some(file, buf),
             None => read_some(&mut self.reader, buf),
         };
-        if count.is_err() {
-            self.file = None;
-            self.failed = self.selected.take();
-            self.read_faults = self.read_faults.saturating_add(1);
+        match count {
+            Ok(count) => self.count_end(buf.len(), count),
+            Err(_) => {
+                self.file = None;
+                self.failed = self.selected.take();
+                self.at_end = false;
+                self.read_faults = self.read_faults.saturating_add(1);
+            }
         }
         count
     }

@@ -1,7 +1,7 @@
 // A sink over a writer.
 ghost use Rattle.std.specs.Prelude.{◌≡◌, ◌<◌, ◌≤◌, false, true, length, take, None, IfOk, IfSome, OnOk, OnErr, MatchResult, MatchOption};
 ghost use Rattle.std.specs.Io.KnownBytes.{Appends, Keeps};
-ghost use Rattle.outside.specs.Counts.{Counts, next_count};
+ghost use Rattle.outside.specs.Counts.{Counts};
 
 use crate::sink::{Sink, WriteFailed};
 use crate::tries::MOST_TRIES;
@@ -58,8 +58,6 @@ impl<W: Write + Drop> Sink for RealSink<W> {
         ensures hands_on { MatchResult result
             (λ n. Appends self.old.contents self.new.contents (take n piece.now))
             (λ _. Keeps self.old.contents self.new.contents) }
-        ensures faults { MatchResult result (λ _. self.new.faults
-            ≡ self.old.faults) (λ _. self.new.faults ≡ next_count self.old.faults) }
     {
         self.flushed = false;
         match write_some(&mut self.inner, piece) {
@@ -77,8 +75,6 @@ impl<W: Write + Drop> Sink for RealSink<W> {
         ensures counts { Counts self.old.faults self.new.faults result }
 
         ensures hands_on { Keeps self.old.contents self.new.contents }
-        ensures faults { MatchResult result (λ _. self.new.faults
-            ≡ self.old.faults) (λ _. self.new.faults ≡ next_count self.old.faults) }
     {
         self.flushed = flush_all(&mut self.inner);
         if self.flushed {

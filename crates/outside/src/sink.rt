@@ -14,7 +14,7 @@ pub trait Sink {
     ghost seen: { Self → SinkSeen };
 
     /// Takes bytes from the front of a piece, and answers how many: at least one where the piece is not
-    /// empty. `WriteFailed` comes only where `faults` rose in this call, and then nothing is taken.
+    /// empty. `WriteFailed` counts one more in `faults`, and then nothing is taken.
     fn write(&mut self, piece: &[u8]) -> Result<usize, WriteFailed>
         ensures bound { IfOk result (λ n. n ≤ length piece.now) }
         ensures some { 0 < length piece.now → IfOk result (λ n. 0 < n) }
@@ -24,7 +24,7 @@ pub trait Sink {
         ensures not_flushed { (seen self.new).flushed ≡ false }
         ensures counts { Counts (seen self.old).faults (seen self.new).faults result };
 
-    /// Hands on all that was taken. `WriteFailed` comes only where `faults` rose in this call.
+    /// Hands on all that was taken. `WriteFailed` counts one more in `faults`.
     fn flush(&mut self) -> Result<(), WriteFailed>
         ensures bytes { (seen self.new).taken ≡ (seen self.old).taken }
         ensures flushed { OnOk result ((seen self.new).flushed ≡ true) }

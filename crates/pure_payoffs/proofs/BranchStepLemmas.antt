@@ -8,7 +8,7 @@ use Rattle.rational.specs.Rational.{ℚ, ◌+ℚ◌, ◌*ℚ◌, zero_ℚ}
 use Rattle.rational.specs.Sum.{sum_to}
 use Rattle.rational.proofs.RationalRing.{+ℚ-zero}
 use Rattle.rational.proofs.Rules.{zero-*ℚ}
-use Rattle.frac128.specs.Steps.{AddFits, MulFits, unfit, Step, StepFits, IsFirstUnfit, StepsGive}
+use Rattle.frac128.specs.Steps.{AddFits, MulFits, step_of, Step, StepFits, IsFirstUnfit, StepsGive}
 use Rattle.frac128.specs.declared.steps.Op.TheVariants.{Add, Mul}
 use Rattle.frac128.specs.declared.steps.Unfit.{Unfit}
 use Rattle.pure_payoffs.specs.Steps.{branch_steps, chance_steps}
@@ -17,29 +17,29 @@ use Rattle.frac128.proofs.StepRunLemmas.{first_unfit-following, first_unfit-here
 -- a branch with the probability 0 adds nothing
 pub skipped-gives : (prob sum v : ℚ) (steps : List Step) → prob ≡ zero_ℚ → StepsGive (branch_steps prob sum v steps) (sum +ℚ prob *ℚ v) (Ok sum)
 skipped-gives prob sum v steps e =
-    (sym (ap (λ x. sum +ℚ x) (ap (λ x. x *ℚ v) e ∙ zero-*ℚ v) ∙ +ℚ-zero sum), subst (All StepFits) (sym (ap (λ b. if b then [] else steps ++ unfit Mul prob v ∷ unfit Add sum (prob *ℚ v) ∷ []) ((eq_ℚ-decides prob zero_ℚ).1 e))) (All-nil StepFits))
+    (sym (ap (λ x. sum +ℚ x) (ap (λ x. x *ℚ v) e ∙ zero-*ℚ v) ∙ +ℚ-zero sum), subst (All StepFits) (sym (ap (λ b. if b then [] else steps ++ step_of Mul prob v ∷ step_of Add sum (prob *ℚ v) ∷ []) ((eq_ℚ-decides prob zero_ℚ).1 e))) (All-nil StepFits))
 
 -- the steps of any other branch
-taken-steps : (prob sum v : ℚ) (steps : List Step) → prob ≢ zero_ℚ → branch_steps prob sum v steps ≡ steps ++ unfit Mul prob v ∷ unfit Add sum (prob *ℚ v) ∷ []
+taken-steps : (prob sum v : ℚ) (steps : List Step) → prob ≢ zero_ℚ → branch_steps prob sum v steps ≡ steps ++ step_of Mul prob v ∷ step_of Add sum (prob *ℚ v) ∷ []
 taken-steps prob sum v steps other =
-    ap (λ b. if b then [] else steps ++ unfit Mul prob v ∷ unfit Add sum (prob *ℚ v) ∷ []) (false_from_ne_true _ (λ t. other ((eq_ℚ-decides prob zero_ℚ).0 t)))
+    ap (λ b. if b then [] else steps ++ step_of Mul prob v ∷ step_of Add sum (prob *ℚ v) ∷ []) (false_from_ne_true _ (λ t. other ((eq_ℚ-decides prob zero_ℚ).0 t)))
 
 -- the first step of the child that does not fit is the branch's
 pub child-refused : (prob sum v : ℚ) (steps : List Step) (u : Step) → prob ≢ zero_ℚ → IsFirstUnfit steps u → IsFirstUnfit (branch_steps prob sum v steps) u
 child-refused prob sum v steps u other h = rw (taken-steps prob sum v steps other) (first_unfit-more steps _ u h)
 
 -- a product that does not fit is the branch's first such step
-pub product-refused : (prob sum v x : ℚ) (steps : List Step) (u : Step) → prob ≢ zero_ℚ → x ≡ v → All StepFits steps → u ≡ unfit Mul prob x → (MulFits prob x → ⊥) → IsFirstUnfit (branch_steps prob sum v steps) u
+pub product-refused : (prob sum v x : ℚ) (steps : List Step) (u : Step) → prob ≢ zero_ℚ → x ≡ v → All StepFits steps → u ≡ step_of Mul prob x → (MulFits prob x → ⊥) → IsFirstUnfit (branch_steps prob sum v steps) u
 product-refused prob sum v x steps u other e fit step refused =
-    rw (taken-steps prob sum v steps other, step, ← e) (first_unfit-following steps _ (unfit Mul prob x) fit (first_unfit-here (unfit Mul prob x) _ refused))
+    rw (taken-steps prob sum v steps other, step, ← e) (first_unfit-following steps _ (step_of Mul prob x) fit (first_unfit-here (step_of Mul prob x) _ refused))
 
 -- what the addition of a product gives is what the branch gives
 pub product-added : (prob sum v x y : ℚ) (steps : List Step) (r : Result ℚ Unfit) → prob ≢ zero_ℚ → x ≡ v → y ≡ prob *ℚ x → All StepFits steps → MulFits prob x
-    → IfOk r (λ f. f ≡ sum +ℚ y) → OnOk r (AddFits sum y) → IfErr r (λ e. e ≡ unfit Add sum y) → OnErr r (AddFits sum y → ⊥) → StepsGive (branch_steps prob sum v steps) (sum +ℚ prob *ℚ v) r
+    → IfOk r (λ f. f ≡ sum +ℚ y) → OnOk r (AddFits sum y) → IfErr r (λ e. e ≡ step_of Add sum y) → OnErr r (AddFits sum y → ⊥) → StepsGive (branch_steps prob sum v steps) (sum +ℚ prob *ℚ v) r
 product-added prob sum v x y steps r other e product fit fits value sum_fits step refused =
-    let last : StepsGive (unfit Add sum y ∷ []) (sum +ℚ y) r = added-gives sum y r value sum_fits step refused in
-    let both = following-gives (unfit Mul prob x ∷ []) (unfit Add sum y ∷ []) (sum +ℚ y) r (one-fits (unfit Mul prob x) fits) last in
-    let whole = following-gives steps (unfit Mul prob x ∷ unfit Add sum y ∷ []) (sum +ℚ y) r fit both in
+    let last : StepsGive (step_of Add sum y ∷ []) (sum +ℚ y) r = added-gives sum y r value sum_fits step refused in
+    let both = following-gives (step_of Mul prob x ∷ []) (step_of Add sum y ∷ []) (sum +ℚ y) r (one-fits (step_of Mul prob x) fits) last in
+    let whole = following-gives steps (step_of Mul prob x ∷ step_of Add sum y ∷ []) (sum +ℚ y) r fit both in
     rw (taken-steps prob sum v steps other, ← e, ← product) whole
 
 -- the first step of chance that does not fit is the same where there are more actions

@@ -8,9 +8,14 @@ use Rattle.game_theory.specs.Trees.{Tree, IsTree}
 use Rattle.pure_payoffs.specs.ChildLists.{HaveAsMany, actions_at}
 use Rattle.std.specs.Prelude.{slice_index, slice_index_or}
 
+-- a list for each of the first n nodes, with as many members as the node's set has actions
+pub record FirstHaveAsMany (t : Tree) (n : ℕ) (lists : List (List ℕ)) : Type 0 where
+  pub one_for_each : length lists ≡ n
+  pub as_many : (k : ℕ) → k < n → length (slice_index_or lists k []) ≡ actions_at t (t.set k)
+
 -- the lists are as long as they will be, and those before node n stand in them
 pub record AreFilled (t : Tree) (n : ℕ) (lists : List (List ℕ)) : Type 0 where
-  pub has_as_many : HaveAsMany t t.size lists
+  pub has_as_many : HaveAsMany t lists
   pub filled : (c : ℕ) → 0 < c → c < n → c < t.size → slice_index (slice_index_or lists (t.parent c) []) (t.branch c) ≡ c
 
 -- at last the lists have the children
@@ -48,7 +53,7 @@ module _ (t : Tree) (n : ℕ) (lists : List (List ℕ)) (w : IsTree t) (p : 0 < 
   at_parent k e = rw e (get_or-set_same lists (t.parent n) with_node [] parent-room.0)
 
   -- the lists stay as long
-  keep-as_many : HaveAsMany t t.size node_filled
+  keep-as_many : HaveAsMany t node_filled
   keep-as_many = record { one_for_each = length-set lists (t.parent n) with_node ∙ h.has_as_many.one_for_each; as_many = λ k m. kept k (cases_eq k (t.parent n)) ∙ h.has_as_many.as_many k m }
     where
       kept : (k : ℕ) → (k ≡ t.parent n) ⊎ (k ≢ t.parent n) → length (get_or node_filled k []) ≡ length (get_or lists k [])

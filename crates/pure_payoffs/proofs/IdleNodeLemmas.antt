@@ -1,12 +1,18 @@
 -- Idle nodes, from the children up to the parents.
-use Rattle.std.proofs.Common.{ℕ, zero, suc, ◌<◌, ◌≤◌, ◌≡◌, Bool, true, false, List, get_or, sym, ap, ◌∙◌, arith}
+use Rattle.std.proofs.Common.{ℕ, zero, suc, ◌<◌, ◌≤◌, ◌≡◌, Bool, true, false, List, length, get_or, sym, ap, ◌∙◌, arith}
 use Rattle.std.specs.Prelude.{slice_index_or}
+use Rattle.game_theory.specs.OwnSets.{NobodyChooses}
 use Rattle.game_theory.specs.Trees.{Tree, IsTree, IsAbove}
 use Rattle.pure_payoffs.specs.Settled.{AreSettledNodes, AreWithoutPlayers}
 
+-- for each of the first n nodes whether it is idle: at idle nodes no player chooses
+pub record AreFirstWithoutPlayers (t : Tree) (n : ℕ) (idle : List Bool) : Type 0 where
+  pub one_for_each : length idle ≡ n
+  pub no_player : (k : ℕ) → k < n → slice_index_or idle k false ≡ true → NobodyChooses t k
+
 -- for each node as before, and from node n on the children of idle nodes are idle
 pub record ArePassedUp (t : Tree) (n : ℕ) (idle : List Bool) : Type 0 where
-  pub tell : AreWithoutPlayers t t.size idle
+  pub tell : AreWithoutPlayers t idle
   pub pass : (c : ℕ) → n ≤ c → 0 < c → c < t.size → slice_index_or idle (t.parent c) false ≡ true → slice_index_or idle c false ≡ true
 
 module _ (t : Tree) (n : ℕ) (idle : List Bool) (w : IsTree t) (few : n ≤ 1) (h : ArePassedUp t n idle) where

@@ -13,7 +13,7 @@ use Rattle.game_theory.specs.Behaviour.{pure, value}
 use Rattle.game_theory.specs.Lines.{listed}
 use Rattle.game_theory.specs.Trees.{Tree}
 use Rattle.game_theory.proofs.EntryLemmas.{listed-next}
-use Rattle.pure_payoffs.specs.Stops.{all_values_in, at_node, node_players, node_values, steps_of, values_of}
+use Rattle.pure_payoffs.specs.Stops.{all_values_fit, at_node, node_players, node_values, steps_of, values_fit}
 use Rattle.pure_payoffs.specs.declared.stop.PayoffStop.{PayoffStop}
 use Rattle.pure_payoffs.specs.declared.stop.PayoffStop.TheVariants as stops
 use Rattle.pure_payoffs.specs.declared.stop.ValueStop.{ValueStop}
@@ -45,11 +45,11 @@ module _ (t : Tree) (choice : ℕ → ℕ) (nodes : List ℕ) (k node : ℕ) (at
 
   module _ (fit : All (StepsFit (steps_of t choice)) (node_players t (take k nodes))) where
     -- the steps of one node more fit
-    pub node_fits : values_of t choice node (Ok tt) → All (StepsFit (steps_of t choice)) (node_players t (take (k + 1) nodes))
+    pub node_fits : values_fit t choice node (Ok tt) → All (StepsFit (steps_of t choice)) (node_players t (take (k + 1) nodes))
     node_fits h = parts_fit (steps_of t choice) pairs nodes k node at fit (All-map (StepsFit (steps_of t choice)) (λ i. (node, i)) (range_with_len 0 t.players) h)
 
     -- or the first that does not is the first of all
-    pub node_stops : (stop : PayoffStop) (told : ValueStop) → told ≡ at_node node stop → Gives stops.Memory (values_of t choice node) (Err stop) → Gives value_stops.Memory (all_values_in t choice nodes) (Err told)
+    pub node_stops : (stop : PayoffStop) (told : ValueStop) → told ≡ at_node node stop → Gives stops.Memory (values_fit t choice node) (Err stop) → Gives value_stops.Memory (all_values_fit t choice nodes) (Err told)
     node_stops stop told is (inl m) = inl (is ∙ ap (at_node node) m)
     node_stops stop told is (inr ((i, step), first, why)) =
         inr (((node, i), step), first_of-part (steps_of t choice) pairs nodes k node at (node, i) step fit (first_of-map (steps_of t choice) (λ j. (node, j)) (range_with_len 0 t.players) i step first), is ∙ ap (at_node node) why)

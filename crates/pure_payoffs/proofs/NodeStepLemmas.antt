@@ -5,7 +5,7 @@ use Rattle.game_theory.specs.Children.{child}
 use Rattle.rational.specs.Rational.{ℚ, ◌+ℚ◌, ◌*ℚ◌}
 use Rattle.rational.specs.Sum.{sum_to}
 use Rattle.rational.proofs.SumLemmas.{sum_to-same, sum_to-single}
-use Rattle.frac128.specs.Steps.{unfit, Step}
+use Rattle.frac128.specs.Steps.{step_of, Step}
 use Rattle.frac128.specs.declared.steps.Op.TheVariants.{Add}
 use Rattle.game_theory.specs.Mixed.{sure}
 use Rattle.game_theory.specs.Trees.{Tree, IsTree}
@@ -38,7 +38,7 @@ module _ (t : Tree) (choice : ℕ → ℕ) (i : ℕ) (w : IsTree t) (chosen : (s
 
       go : (o : Option ℕ) → t.set k ≡ o → node_steps t choice i f k o ≡ node_steps t choice i g k o
       go None e = refl
-      go (Some s) e = ap (λ x. x ++ unfit Add (t.pays k i) (value_after t choice i k s (t.owner s)) ∷ []) (owned s (t.owner s) e refl)
+      go (Some s) e = ap (λ x. x ++ step_of Add (t.pays k i) (value_after t choice i k s (t.owner s)) ∷ []) (owned s (t.owner s) e refl)
 
   -- where no node lies deeper, one more edge adds no step
   steps_to-enough : (d k : ℕ) → k < t.size → t.size ≤ d + k → steps_to t choice i d k ≡ steps_to t choice i (suc d) k
@@ -54,7 +54,7 @@ module _ (t : Tree) (choice : ℕ → ℕ) (i : ℕ) (w : IsTree t) (chosen : (s
   steps_at-end k l e = steps_at-recur k l ∙ ap (node_steps t choice i (steps_at t choice i) k) e
 
   -- at any other node the last step adds what comes after it
-  pub steps_at-inner : (k s : ℕ) → k < t.size → t.set k ≡ Some s → steps_at t choice i k ≡ steps_after t choice i (steps_at t choice i) k s (t.owner s) ++ unfit Add (t.pays k i) (value_after t choice i k s (t.owner s)) ∷ []
+  pub steps_at-inner : (k s : ℕ) → k < t.size → t.set k ≡ Some s → steps_at t choice i k ≡ steps_after t choice i (steps_at t choice i) k s (t.owner s) ++ step_of Add (t.pays k i) (value_after t choice i k s (t.owner s)) ∷ []
   steps_at-inner k s l e = steps_at-recur k l ∙ ap (node_steps t choice i (steps_at t choice i) k) e
 
   -- the weighted values of a node's children sum to the value of what comes after it

@@ -4,7 +4,7 @@ use Rattle.std.specs.Prelude.{IfOk, IfErr, OnOk, OnErr}
 use Rattle.std.proofs.lemmas.List.Elements.{All-nil}
 use Rattle.game_theory.specs.Children.{child}
 use Rattle.rational.specs.Rational.{ℚ, ◌+ℚ◌}
-use Rattle.frac128.specs.Steps.{AddFits, unfit, Step, StepFits, IsFirstUnfit, StepsGive}
+use Rattle.frac128.specs.Steps.{AddFits, step_of, Step, StepFits, IsFirstUnfit, StepsGive}
 use Rattle.frac128.specs.declared.steps.Op.TheVariants.{Add}
 use Rattle.frac128.specs.declared.steps.Unfit.{Unfit}
 use Rattle.game_theory.specs.Trees.{Tree, IsTree}
@@ -29,7 +29,7 @@ module _ (t : Tree) (choice : ℕ → ℕ) (i : ℕ) (w : IsTree t) (chosen : (s
 
     -- what the addition to the outcome's payoff gives is what the node gives
     pub node-added : (p x : ℚ) (r : Result ℚ Unfit) → p ≡ t.pays k i → x ≡ value_after t choice i k s (t.owner s) → All StepFits (steps_after t choice i (steps_at t choice i) k s (t.owner s))
-        → IfOk r (λ f. f ≡ p +ℚ x) → OnOk r (AddFits p x) → IfErr r (λ u. u ≡ unfit Add p x) → OnErr r (AddFits p x → ⊥) → StepsGive (steps_at t choice i k) (value t (pure choice) i k) r
+        → IfOk r (λ f. f ≡ p +ℚ x) → OnOk r (AddFits p x) → IfErr r (λ u. u ≡ step_of Add p x) → OnErr r (AddFits p x → ⊥) → StepsGive (steps_at t choice i k) (value t (pure choice) i k) r
     node-added p x r pays is fit sum fits step refused =
-        let whole = following-gives (steps_after t choice i (steps_at t choice i) k s (t.owner s)) (unfit Add p x ∷ []) (p +ℚ x) r fit (added-gives p x r sum fits step refused) in
+        let whole = following-gives (steps_after t choice i (steps_at t choice i) k s (t.owner s)) (step_of Add p x ∷ []) (p +ℚ x) r fit (added-gives p x r sum fits step refused) in
         rw (steps_at-inner t choice i w chosen k s l e, value-inner t choice i w chosen k s l e, ← is, ← pays) whole

@@ -3,7 +3,7 @@ use Rattle.std.proofs.Common.{ℕ, zero, suc, ◌<◌, ◌≡◌, Option, Some, 
 use Rattle.game_theory.proofs.NamedChildLemmas.{child-is_child}
 use Rattle.game_theory.specs.Children.{child}
 use Rattle.rational.specs.Rational.{ℚ}
-use Rattle.frac128.specs.Steps.{unfit, StepFits}
+use Rattle.frac128.specs.Steps.{step_of, StepFits}
 use Rattle.frac128.specs.declared.steps.Op.TheVariants.{Add}
 use Rattle.game_theory.specs.Trees.{Tree, IsTree, IsChild}
 use Rattle.game_theory.specs.Behaviour.{value, pure}
@@ -32,10 +32,10 @@ module _ (t : Tree) (w : IsTree t) where
       steps : (a : ℕ) → a < t.actions s → steps_to t one i d (child t k a) ≡ steps_to t other i d (child t k a)
       steps a m = let c = child-is_child t k s a w l e m in later (child t k a) c.1 (IsSettled-child k a (child t k a) h c)
 
-      by_owner : (o : Option ℕ) → t.owner s ≡ o → steps_after t one i (steps_to t one i d) k s o ++ unfit Add (t.pays k i) (value_after t one i k s o) ∷ []
-          ≡ steps_after t other i (steps_to t other i d) k s o ++ unfit Add (t.pays k i) (value_after t other i k s o) ∷ []
+      by_owner : (o : Option ℕ) → t.owner s ≡ o → steps_after t one i (steps_to t one i d) k s o ++ step_of Add (t.pays k i) (value_after t one i k s o) ∷ []
+          ≡ steps_after t other i (steps_to t other i d) k s o ++ step_of Add (t.pays k i) (value_after t other i k s o) ∷ []
       by_owner None p =
-          ap₂ (λ x y. x ++ unfit Add (t.pays k i) y ∷ [])
+          ap₂ (λ x y. x ++ step_of Add (t.pays k i) y ∷ [])
           (chance_steps-same (t.actions s) (t.chance s) (λ a. value t (pure one) i (child t k a)) (λ a. value t (pure other) i (child t k a)) (λ a. steps_to t one i d (child t k a)) (λ a. steps_to t other i d (child t k a)) values steps)
           (weighted-same (t.actions s) (t.chance s) (λ a. value t (pure one) i (child t k a)) (λ a. value t (pure other) i (child t k a)) values)
       by_owner (Some j) p = absurd (h k l (0, refl) j s (record { at_set = e; own = p }))

@@ -1,16 +1,36 @@
 -- The places of values while they are made and written.
 use Rattle.std.proofs.Common.{ℕ, ◌+◌, ◌<◌, ◌≡◌, ◌≢◌, ◌⊎◌, inl, inr, Option, None, List, [], ◌∷◌, ◌++◌, length, map, get_or, set, All, sym, ap, ◌∙◌, subst, arith}
-use Rattle.std.specs.Prelude.{IfSome}
+use Rattle.std.specs.Prelude.{IfSome, slice_index_or}
 use Rattle.std.proofs.lemmas.Bool.{cases_eq}
 use Rattle.std.proofs.lemmas.List.{length-map, length-set, length_push, map-append, map-set, get_or_append_left, get_or_push, get_or-set_same, get_or-set_other}
 use Rattle.rational.specs.Rational.{ℚ}
 use Rattle.game_theory.specs.Trees.{Tree}
-use Rattle.pure_payoffs.specs.Settled.{IsSettled, Settles, IsPlace, HavePlaces}
+use Rattle.pure_payoffs.specs.Settled.{IsSettled, Settles, IsPlace, KeepValues}
+use Rattle.pure_payoffs.specs.declared.settled.Settled.{Settled}
 use Rattle.pure_payoffs.proofs.FilledListLemmas.{list-read}
 
 -- a place that is free
 pub free-place : (t : Tree) (k i : ℕ) (places : List (Option ℚ)) → IsSettled t k → All (λ place. place ≡ None) places → i < length places → IsPlace t k i (get_or places i None)
 free-place t k i places h free l = record { settled = h; value = subst (λ place. IfSome place (Settles t i k)) (sym (free i None l)) tt }
+
+-- the places of the first n nodes
+pub record HavePlaces (t : Tree) (n : ℕ) (lists : List (List (Option ℚ))) : Type 0 where
+  pub one_for_each : length lists ≡ n
+  pub places : (k i : ℕ) → k < n → i < length (slice_index_or lists k []) → IsPlace t k i (slice_index_or (slice_index_or lists k []) i None)
+
+-- the places of all nodes are the values that are kept
+pub values-kept : (t : Tree) (settled : Settled) → HavePlaces t t.size (map (λ v. v.items) settled.places.items) → KeepValues t settled
+values-kept t settled h = record {
+  one_for_each = sym (length-map settled.places.items (λ v. v.items)) ∙ h.one_for_each;
+  places = h.places;
+}
+
+-- and the other way round
+pub places-kept : (t : Tree) (settled : Settled) → KeepValues t settled → HavePlaces t t.size (map (λ v. v.items) settled.places.items)
+places-kept t settled h = record {
+  one_for_each = length-map settled.places.items (λ v. v.items) ∙ h.one_for_each;
+  places = h.places;
+}
 
 module _ (t : Tree) (n : ℕ) (lists : List (List (Option ℚ))) (h : HavePlaces t n lists) where
   -- the places of one more node

@@ -7,7 +7,7 @@ abbrev pub actions_at : Tree → Option ℕ → ℕ
 actions_at t None = 0
 actions_at t (Some s) = t.actions s
 
--- a list for each of the first n nodes, with as many members as the node's set has actions, and none at an end
-pub record HaveAsMany (t : Tree) (n : ℕ) (lists : List (List ℕ)) : Type 0 where
-  pub one_for_each : length lists ≡ n
-  pub as_many : (k : ℕ) → k < n → length (slice_index_or lists k []) ≡ actions_at t (t.set k)
+-- a list for each node, with as many members as the node's set has actions, and none at an end
+pub record HaveAsMany (t : Tree) (lists : List (List ℕ)) : Type 0 where
+  pub one_for_each : length lists ≡ t.size
+  pub as_many : (k : ℕ) → k < t.size → length (slice_index_or lists k []) ≡ actions_at t (t.set k)

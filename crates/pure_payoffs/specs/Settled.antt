@@ -14,10 +14,10 @@ IsSettled t k = (c : ℕ) → c < t.size → IsWithin t k c → NobodyChooses t 
 abbrev pub Settles : Tree → ℕ → ℕ → ℚ → Type 0
 Settles t i k v = (choice : ℕ → ℕ) → GiveAt t choice i k (Ok v)
 
--- for each of the first n nodes whether it is idle: at idle nodes no player chooses
-pub record AreWithoutPlayers (t : Tree) (n : ℕ) (idle : List Bool) : Type 0 where
-  pub one_for_each : length idle ≡ n
-  pub no_player : (k : ℕ) → k < n → slice_index_or idle k false ≡ true → NobodyChooses t k
+-- for each node whether it is idle: at idle nodes no player chooses
+pub record AreWithoutPlayers (t : Tree) (idle : List Bool) : Type 0 where
+  pub one_for_each : length idle ≡ t.size
+  pub no_player : (k : ℕ) → k < t.size → slice_index_or idle k false ≡ true → NobodyChooses t k
 
 -- for each node whether it is idle; in the subtrees of idle nodes no player chooses
 pub record AreSettledNodes (t : Tree) (idle : List Bool) : Type 0 where
@@ -29,11 +29,12 @@ pub record IsPlace (t : Tree) (k i : ℕ) (place : Option ℚ) : Type 0 where
   pub settled : IsSettled t k
   pub value : IfSome place (Settles t i k)
 
--- the places of n nodes
-pub record HavePlaces (t : Tree) (n : ℕ) (lists : List (List (Option ℚ))) : Type 0 where
-  pub one_for_each : length lists ≡ n
-  pub places : (k i : ℕ) → k < n → i < length (slice_index_or lists k []) → IsPlace t k i (slice_index_or (slice_index_or lists k []) i None)
+-- the places that a node has
+abbrev pub places_at : Settled → ℕ → List (Option ℚ)
+places_at settled k = slice_index_or (map (λ v. v.items) settled.places.items) k []
 
 -- the values that are kept are right for all choices
-abbrev pub KeepValues : Tree → Settled → Type 0
-KeepValues t settled = HavePlaces t t.size (map (λ v. v.items) settled.places.items)
+pub record KeepValues (t : Tree) (settled : Settled) : Type 0 where
+  pub one_for_each : length settled.places.items ≡ t.size
+  pub places : (k i : ℕ) → k < t.size → i < length (places_at settled k)
+      → IsPlace t k i (slice_index_or (places_at settled k) i None)

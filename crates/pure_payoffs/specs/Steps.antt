@@ -4,7 +4,7 @@ use Rattle.game_theory.specs.Children.{child}
 use Rattle.rational.specs.Tests.{eq_ℚ}
 use Rattle.rational.specs.Rational.{ℚ, ◌*ℚ◌, zero_ℚ}
 use Rattle.rational.specs.Sum.{sum_to}
-use Rattle.frac128.specs.Steps.{Step, unfit}
+use Rattle.frac128.specs.Steps.{Step, step_of}
 use Rattle.frac128.specs.declared.steps.Op.TheVariants.{Add, Mul}
 use Rattle.game_theory.specs.Trees.{Tree}
 use Rattle.game_theory.specs.Behaviour.{value, pure}
@@ -13,7 +13,7 @@ use Rattle.game_theory.specs.Behaviour.{value, pure}
 -- of the child, the product and the addition.
 abbrev pub branch_steps : ℚ → ℚ → ℚ → List Step → List Step
 branch_steps prob sum v steps =
-    if eq_ℚ prob zero_ℚ then [] else steps ++ unfit Mul prob v ∷ unfit Add sum (prob *ℚ v) ∷ []
+    if eq_ℚ prob zero_ℚ then [] else steps ++ step_of Mul prob v ∷ step_of Add sum (prob *ℚ v) ∷ []
 
 -- the steps at a chance node, where these are the probabilities of its first actions, the values of its children and the steps of
 -- these: for each action in order those with which the child's product is added to the sum so far
@@ -42,9 +42,9 @@ abbrev pub node_steps : Tree → (ℕ → ℕ) → ℕ → (ℕ → List Step) �
 node_steps t choice i later k None = []
 node_steps t choice i later k (Some s) =
     steps_after t choice i later k s (t.owner s)
-    ++ unfit Add (t.pays k i) (value_after t choice i k s (t.owner s)) ∷ []
+    ++ step_of Add (t.pays k i) (value_after t choice i k s (t.owner s)) ∷ []
 
--- the steps of node k's value for player i, where what lies more than d edges below has none
+-- the steps of node k's value for player i, where what lies d edges or more below has none
 abbrev pub steps_to : Tree → (ℕ → ℕ) → ℕ → ℕ → ℕ → List Step
 steps_to t choice i zero k = []
 steps_to t choice i (suc d) k = node_steps t choice i (steps_to t choice i d) k (t.set k)

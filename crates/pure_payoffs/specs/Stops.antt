@@ -17,18 +17,18 @@ use Rattle.pure_payoffs.specs.declared.stop.ValueStop.TheVariants as value_stops
 
 -- ---- one node
 -- the steps of what node k is worth to all players fit; or the first that does not, with its player
-abbrev pub values_of : Tree → (ℕ → ℕ) → ℕ → Answer PayoffStop (Unit {0})
-values_of t choice k =
+abbrev pub values_fit : Tree → (ℕ → ℕ) → ℕ → Answer PayoffStop (Unit {0})
+values_fit t choice k =
     refused_by (λ stop. stops.Range stop.0 stop.1)
     (all_fit (λ i. steps_at t choice i k) (range_with_len 0 t.players))
 
--- the steps of all players' payoffs
-abbrev pub payoffs_in : Tree → (ℕ → ℕ) → Answer PayoffStop (Unit {0})
-payoffs_in t choice = values_of t choice 0
+-- the steps of all players' payoffs fit; or the first that does not, with its player
+abbrev pub payoffs_fit : Tree → (ℕ → ℕ) → Answer PayoffStop (Unit {0})
+payoffs_fit t choice = values_fit t choice 0
 
--- A choice at each set has one answer at each node.
+-- A choice at each set has at most one answer at each node.
 abbrev pub PayoffsAreSingle : Type 0
-PayoffsAreSingle = (t : Tree) (choice : ℕ → ℕ) (k : ℕ) → IsSingle (values_of t choice k)
+PayoffsAreSingle = (t : Tree) (choice : ℕ → ℕ) (k : ℕ) → IsSingle (values_fit t choice k)
 
 -- ---- several nodes
 -- what nodes are worth: node by node, and in each player by player
@@ -51,7 +51,7 @@ at_node k stops.Memory = value_stops.Memory
 
 -- the steps of what these nodes are worth to all players fit; or the first that does not, with its
 -- node and its player
-abbrev pub all_values_in : Tree → (ℕ → ℕ) → List ℕ → Answer ValueStop (Unit {0})
-all_values_in t choice nodes =
+abbrev pub all_values_fit : Tree → (ℕ → ℕ) → List ℕ → Answer ValueStop (Unit {0})
+all_values_fit t choice nodes =
     refused_by (λ stop. value_stops.Range stop.0.0 stop.0.1 stop.1)
     (all_fit (steps_of t choice) (node_players t nodes))

@@ -24,8 +24,7 @@ fn actions_at(tree: &Tree, node: usize) -> usize
 // For each node a list of zeros, one for each action of its set.
 fn rooms(alloc: Global, tree: &Tree) -> Result<Vec<Vec<u32>>, Memory>
     ensures { IfOk result
-        (λ lists. HaveAsMany (game_of_tree tree.now) (length tree.now.nodes)
-        (map (λ v. v.items) lists.items)) }
+        (λ lists. HaveAsMany (game_of_tree tree.now) (map (λ v. v.items) lists.items)) }
 {
     let mut lists = Vec::new(alloc);
     for node in 0..tree.nodes().len() {
@@ -39,8 +38,7 @@ pub fn children_of_all(alloc: Global, tree: &Tree) -> Result<Vec<Vec<u32>>, Memo
     ensures children { IfOk result
         (λ lists. AreChildren (game_of_tree tree.now) (map (λ v. v.items) lists.items)) }
     ensures as_many { IfOk result
-        (λ lists. HaveAsMany (game_of_tree tree.now) (length tree.now.nodes)
-        (map (λ v. v.items) lists.items)) }
+        (λ lists. HaveAsMany (game_of_tree tree.now) (map (λ v. v.items) lists.items)) }
 {
     stands_for_game_tree(tree);
     let mut lists = rooms(alloc, tree)?;

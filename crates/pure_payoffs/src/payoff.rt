@@ -54,7 +54,7 @@ impl<'a> Play<'a> {
     ghost use Rattle.pure_payoffs.specs.Shortcuts.{KeepShortcuts};
     ghost use Rattle.frac128.specs.Steps.{StepsGive};
     ghost use Rattle.pure_payoffs.specs.Steps.{branch_steps, steps_after, steps_at, value_after};
-    ghost use Rattle.pure_payoffs.specs.Stops.{all_values_in, node_values, payoffs_in, values_of};
+    ghost use Rattle.pure_payoffs.specs.Stops.{all_values_fit, node_values, payoffs_fit, values_fit};
     ghost use Rattle.pure_payoffs.specs.declared.stop.PayoffStop.TheVariants as stops;
     ghost use Rattle.pure_payoffs.specs.declared.stop.ValueStop.TheVariants as value_stops;
 
@@ -79,7 +79,7 @@ impl<'a> Play<'a> {
             OnOk result
             (payoffs.new.items ≡ payoffs.old.items ++ listed t.players (payoff t (pure choice))) }
         ensures stop { Gives stops.Memory
-            (payoffs_in (game_of self.now) (choice_of self.now)) result }
+            (payoffs_fit (game_of self.now) (choice_of self.now)) result }
     {
         stands_for_game_tree(self.tree);
         shortcuts.entries.forget();
@@ -108,7 +108,7 @@ impl<'a> Play<'a> {
         ensures values { OnOk result (values.new.items ≡ values.old.items
             ++ node_values (game_of self.now) (choice_of self.now) nodes.now) }
         ensures stop { Gives value_stops.Memory
-            (all_values_in (game_of self.now) (choice_of self.now) nodes.now) result }
+            (all_values_fit (game_of self.now) (choice_of self.now) nodes.now) result }
     {
         stands_for_game_tree(self.tree);
         shortcuts.entries.forget();
@@ -129,7 +129,7 @@ impl<'a> Play<'a> {
         ensures values { OnOk result (values.new.items ≡ values.old.items
             ++ node_values (game_of self.now) (choice_of self.now) nodes.now) }
         ensures stop { Gives value_stops.Memory
-            (all_values_in (game_of self.now) (choice_of self.now) nodes.now) result }
+            (all_values_fit (game_of self.now) (choice_of self.now) nodes.now) result }
     {
         for node in nodes {
             match self.push_values(entries, *node, values) {
@@ -156,7 +156,7 @@ impl<'a> Play<'a> {
             OnOk result (values.new.items
             ≡ values.old.items ++ listed t.players (λ i. value t (pure choice) i node)) }
         ensures stop { Gives stops.Memory
-            (values_of (game_of self.now) (choice_of self.now) node) result }
+            (values_fit (game_of self.now) (choice_of self.now) node) result }
     {
         for player in 0..self.tree.players().len() as u32 {
             match self.value(entries, node, player) {

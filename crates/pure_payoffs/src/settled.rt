@@ -22,7 +22,7 @@ pub(crate) struct Settled {
 // For each node whether no player moves there.
 fn nodes_of_chance(alloc: Global, tree: &Tree) -> Result<Vec<bool>, Memory>
     ensures { IfOk result
-        (λ idle. AreWithoutPlayers (game_of_tree tree.now) (length tree.now.nodes) idle.items) }
+        (λ idle. AreWithoutPlayers (game_of_tree tree.now) idle.items) }
 {
     let mut idle = Vec::new(alloc);
     for node in tree.nodes() {

@@ -6,7 +6,7 @@ use Rattle.rational.specs.Gcd.{gcd}
 use Rattle.rational.specs.Rational.{ℚ, frac, ◌+ℚ◌, ◌*ℚ◌, neg_ℚ, inv_ℚ, zero_ℚ, one_ℚ, ◌≤ℚ◌, ◌<ℚ◌}
 use Rattle.rational.specs.Extremes.{IsGreatest, IsLeast}
 use Rattle.rational.specs.Midpoint.{midpoint}
-use Rattle.rational.specs.Sum.{sum_to, IsWeights}
+use Rattle.rational.specs.Sum.{sum_to, IsDistribution}
 use Rattle.rational.specs.Tests.{le_test, lt_test, cmp_ℚ, eq_ℚ, sign_of}
 
 -- What `gcd` gives divides both numbers, and each common divisor divides it.
@@ -90,6 +90,6 @@ pub record SumsAddUp : Type 0 where
   pub each_zero : (n : ℕ) (f : ℕ → ℚ) → ((i : ℕ) → i < n → zero_ℚ ≤ℚ f i) → sum_to n f ≡ zero_ℚ → (i : ℕ) → i < n → f i ≡ zero_ℚ
 
 -- A mean of values is at most the greatest, and reaches it exactly where it weighs greatest values alone.
-pub record MeansStayBelow : Type 0 where
-  pub at_most : (n : ℕ) (x v : ℕ → ℚ) (m : ℚ) → IsWeights n x → ((i : ℕ) → i < n → v i ≤ℚ m) → sum_to n (λ i. x i *ℚ v i) ≤ℚ m
-  pub reaches : (n : ℕ) (x v : ℕ → ℚ) (m : ℚ) → IsWeights n x → ((i : ℕ) → i < n → v i ≤ℚ m) → (sum_to n (λ i. x i *ℚ v i) ≡ m) ↔ ((i : ℕ) → i < n → (x i ≡ zero_ℚ) ⊎ (v i ≡ m))
+pub record MeansAreAtMost : Type 0 where
+  pub at_most : (n : ℕ) (x v : ℕ → ℚ) (m : ℚ) → IsDistribution n x → ((i : ℕ) → i < n → v i ≤ℚ m) → sum_to n (λ i. x i *ℚ v i) ≤ℚ m
+  pub reaches : (n : ℕ) (x v : ℕ → ℚ) (m : ℚ) → IsDistribution n x → ((i : ℕ) → i < n → v i ≤ℚ m) → (sum_to n (λ i. x i *ℚ v i) ≡ m) ↔ ((i : ℕ) → i < n → (x i ≡ zero_ℚ) ⊎ (v i ≡ m))

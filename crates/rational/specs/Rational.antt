@@ -4,7 +4,7 @@ use Rattle.std.proofs.Common.{rules, arith}
 use Rattle.rational.specs.Gcd.{gcd, div_ℤ}
 use Rattle.rational.specs.LowestTerms.{den-pos, div_ℤ-lowest}
 
--- d is positive, and n and d share no divisor
+-- d is positive, and n and d share no divisor but 1
 unfoldable pub is_lowest : ℤ → ℕ → Bool
 is_lowest n d = nat_lt 0 d && nat_eq (gcd (nat_abs n) d) 1
 

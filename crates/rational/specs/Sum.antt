@@ -15,7 +15,7 @@ sum_to (suc n) f = sum_to n f +ℚ f n
 abbrev pub change : (ℕ → ℚ) → ℕ → ℚ → ℕ → ℚ
 change f c v j = cond (eqb j c) v (f j)
 
--- weights of n things: none is negative, and they sum to 1
-pub record IsWeights (n : ℕ) (x : ℕ → ℚ) : Type 0 where
+-- a probability distribution over n things: none is negative, and they sum to 1
+pub record IsDistribution (n : ℕ) (x : ℕ → ℚ) : Type 0 where
   pub not_negative : (i : ℕ) → i < n → zero_ℚ ≤ℚ x i
   pub sum_is_one : sum_to n x ≡ one_ℚ

@@ -11,7 +11,7 @@
 //! crates stand on it.
 #![tactic(auto)]
 
-ghost use Rattle.rational.specs.Laws.{GcdIsGreatest, FractionsStandForNumbers, IsCommutativeRing, IsOrderedField, OrderIsDecidable, ExtremesAreSingle, MidpointsLieBetween, SumsAddUp, MeansStayBelow};
+ghost use Rattle.rational.specs.Laws.{GcdIsGreatest, FractionsStandForNumbers, IsCommutativeRing, IsOrderedField, OrderIsDecidable, ExtremesAreSingle, MidpointsLieBetween, SumsAddUp, MeansAreAtMost};
 ghost use Rattle.rational.specs.RingLaws.{WholeNumbersAreARing};
 
 /// The greatest common divisor of two numbers divides both, and each common divisor divides it.
@@ -58,8 +58,8 @@ pub fn sums_add_up()
 
 /// A mean is at most the greatest value, and reaches it exactly where it weighs greatest values
 /// alone.
-pub fn means_stay_below()
-    ensures { MeansStayBelow }
+pub fn means_are_at_most()
+    ensures { MeansAreAtMost }
 {}
 
 /// Sums and products of whole numbers obey the laws of a commutative ring.

@@ -14,12 +14,12 @@ use Rattle.game_theory.proofs.ProfileLineLemmas.{get_or-listed, length-listed}
 use Rattle.game_theory.specs.Profiles.{profile_at, profile_count}
 use Rattle.game_theory.specs.Trees.{Tree}
 use Rattle.reduced_strategies.specs.StrategicForm.{completed, strategic_form}
-use Rattle.pure_payoffs.specs.Stops.{payoffs_in}
+use Rattle.pure_payoffs.specs.Stops.{payoffs_fit}
 use Rattle.frac128.specs.Steps.{Step}
 use Rattle.frac128.specs.FirstUnfit.{StepsFit}
 use Rattle.frac128.proofs.UnfitListLemmas.{first_of-map, parts_fit, first_of-part}
 use Rattle.reduced_form.specs.Cells.{AreCells, at_profile}
-use Rattle.reduced_form.specs.Limits.{Place, cell_steps, cells}
+use Rattle.reduced_form.specs.Limits.{CellIndex, cell_steps, cells}
 use Rattle.reduced_form.specs.Stops.{cells_in}
 use Rattle.reduced_form.specs.declared.stop.ReduceStop.{ReduceStop}
 use Rattle.reduced_form.specs.declared.stop.ReduceStop.TheVariants as stops
@@ -28,7 +28,7 @@ use Rattle.reduced_form.specs.declared.stop.ReduceStop.TheVariants as stops
 abbrev pub profile_cells_in : Tree → List (List (List ℕ)) → ℕ → Answer ReduceStop (Unit {0})
 profile_cells_in t strategies k =
     refused_by (at_profile k)
-    (payoffs_in t (completed t strategies (profile_at (map length strategies) k)))
+    (payoffs_fit t (completed t strategies (profile_at (map length strategies) k)))
 
 module _ (t : Tree) (strategies : List (List (List ℕ))) where
   -- the cells of one more profile
@@ -51,11 +51,11 @@ module _ (t : Tree) (strategies : List (List (List ℕ))) where
   abbrev numbers : List ℕ
   numbers = range_with_len 0 (profile_count (map length strategies))
 
-  abbrev steps : Place → List Step
+  abbrev steps : CellIndex → List Step
   steps cell = cell_steps t strategies cell.0 cell.1
 
   -- the cells of one profile
-  abbrev row : ℕ → List Place
+  abbrev row : ℕ → List CellIndex
   row k = map (λ i. (k, i)) (range_with_len 0 t.players)
 
   -- the steps of the cells of the first profiles fit

@@ -8,7 +8,7 @@ use Rattle.game_core.specs.Table.{most_payoffs}
 use Rattle.game_core.specs.Tree.{GameTree}
 use Rattle.game_core.specs.TreeGame.{game_of_tree}
 use Rattle.reduced_form.specs.Counts.{AreCounted, counts_in}
-use Rattle.reduced_form.specs.Limits.{choices_by, most_choices}
+use Rattle.reduced_form.specs.Limits.{choices_of, most_choices}
 use Rattle.reduced_form.specs.ReducedForm.{ReducedForm, IsReducedForm}
 use Rattle.reduced_form.specs.Stops.{cells_in, reduced_form_of, within_limits}
 use Rattle.reduced_form.specs.declared.stop.ReduceStop.{ReduceStop}
@@ -21,7 +21,7 @@ form_of tree form h = h.2.2.2.0
 
 -- ---- the stages
 -- both counts are within their limits
-pub form-within : (t : Tree) (counts : List ℕ) (strategies : List (List (List ℕ))) → AreCounted t counts → AreStrategies t strategies → t.players * profile_count counts ≤ most_payoffs → choices_by t 0 counts ≤ most_choices → within_limits t strategies (Ok tt)
+pub form-within : (t : Tree) (counts : List ℕ) (strategies : List (List (List ℕ))) → AreCounted t counts → AreStrategies t strategies → t.players * profile_count counts ≤ most_payoffs → choices_of t counts ≤ most_choices → within_limits t strategies (Ok tt)
 form-within t counts strategies h a payoffs choices =
     let same : counts ≡ map length strategies = counted-same t counts strategies h a in
     let few = subst (λ ns. t.players * profile_count ns ≤ most_payoffs) same payoffs in

@@ -1,6 +1,8 @@
 -- The sizes of a reduced form by the numbers of strategies.
 use Rattle.std.proofs.Common.{ℕ, zero, suc, ◌+◌, ◌*◌, ◌/◌, ◌<◌, ◌≤◌, ◌≡◌, inl, inr, Some, Err, List, [], ◌∷◌, ◌++◌, length, map, take, get_or, All, refl, sym, ap, ap₂, ◌∙◌, subst, arith, min, below_more, mul-pos}
 use Rattle.std.specs.Prelude.{slice_get, slice_index}
+use Rattle.std.specs.List.{enumerate_from, sum_by}
+use Rattle.std.proofs.lemmas.List.Sums.{sum_by-cons}
 use Rattle.std.proofs.lemmas.List.{length-map, length_push, length-take-le, take_all, take_more, get_or_append_left, get_or_push, ext_get_or, get_or-take, get_or-map}
 use Rattle.std.proofs.lemmas.Option.{slice_get-get_or}
 use Rattle.std.proofs.Math.Nat.{mul-div-le, min-le_left, min-eq_left, min-eq_right}
@@ -19,7 +21,7 @@ use Rattle.reduced_strategies.proofs.ExistenceLemmas.{strategies-exist}
 use Rattle.game_core.specs.Table.{most_payoffs}
 use Rattle.strategy_lists.specs.Decisions.{HasCount}
 use Rattle.reduced_form.specs.Counts.{AreCounted, counts_in}
-use Rattle.reduced_form.specs.Limits.{choice_count, choices_by, most_choices}
+use Rattle.reduced_form.specs.Limits.{choice_count, choices_of, most_choices}
 use Rattle.game_core.specs.Limits.{first_above}
 use Rattle.game_core.specs.declared.too_large.What.TheVariants as what
 use Rattle.reduced_form.specs.declared.stop.ReduceStop.TheVariants as stops
@@ -136,35 +138,42 @@ pub HasCount-positive : (t : Tree) (i n : ℕ) → IsTree t → HasCount t i n �
 HasCount-positive t i n w h = omega (arith, h.2, some_strategy t i h.0 w h.1)
 
 -- ---- choices
+-- the choices of the players from player i on
+abbrev choices_from : Tree → ℕ → List ℕ → ℕ
+choices_from t i counts = sum_by (λ p. p.1 * length (own_sets t p.0)) (enumerate_from i counts)
+
+choices_from-cons : (t : Tree) (i n : ℕ) (counts : List ℕ) → choices_from t i (n ∷ counts) ≡ n * length (own_sets t i) + choices_from t (i + 1) counts
+choices_from-cons t i n counts = sum_by-cons (λ p. p.1 * length (own_sets t p.0)) (i, n) (enumerate_from (i + 1) counts)
+
 -- the choices of the first players and of one more
-choices_by-push : (t : Tree) (i : ℕ) (counts : List ℕ) (n : ℕ) → choices_by t i (counts ++ n ∷ []) ≡ choices_by t i counts + n * length (own_sets t (i + length counts))
-choices_by-push t i [] n = let e : i + 0 ≡ i = omega arith in rw e (omega arith)
-choices_by-push t i (m ∷ counts) n =
-    let e : suc i + length counts ≡ i + suc (length counts) = omega arith in
-    let later = rw e at (choices_by-push t (suc i) counts n) in
-    omega arith
+choices_from-push : (t : Tree) (i : ℕ) (counts : List ℕ) (n : ℕ) → choices_from t i (counts ++ n ∷ []) ≡ choices_from t i counts + n * length (own_sets t (i + length counts))
+choices_from-push t i [] n = let e : i + 0 ≡ i = omega arith in rw e (omega (arith, choices_from-cons t i n []))
+choices_from-push t i (m ∷ counts) n =
+    let e : (i + 1) + length counts ≡ i + suc (length counts) = omega arith in
+    let later = rw e at (choices_from-push t (i + 1) counts n) in
+    omega (arith, choices_from-cons t i m counts, choices_from-cons t i m (counts ++ n ∷ []))
 
 -- the choices of the players up to one
-pub choices_by-next : (t : Tree) (counts : List ℕ) (i : ℕ) → i < length counts → choices_by t 0 (take (i + 1) counts) ≡ choices_by t 0 (take i counts) + get_or counts i 0 * length (own_sets t i)
-choices_by-next t counts i l =
+pub choices_of-next : (t : Tree) (counts : List ℕ) (i : ℕ) → i < length counts → choices_of t (take (i + 1) counts) ≡ choices_of t (take i counts) + get_or counts i 0 * length (own_sets t i)
+choices_of-next t counts i l =
     let long : length (take i counts) ≡ i = length-take-le i counts (omega arith) in
     let e : 0 + length (take i counts) ≡ i = omega arith in
-    ap (choices_by t 0) (take_more counts i 0 l) ∙ choices_by-push t 0 (take i counts) (get_or counts i 0) ∙ ap (λ x. choices_by t 0 (take i counts) + get_or counts i 0 * length (own_sets t x)) e
+    ap (choices_of t) (take_more counts i 0 l) ∙ choices_from-push t 0 (take i counts) (get_or counts i 0) ∙ ap (λ x. choices_of t (take i counts) + get_or counts i 0 * length (own_sets t x)) e
 
 -- the first players have no more choices than all
-pub choices_by-front : (t : Tree) (i k : ℕ) (counts : List ℕ) → choices_by t i (take k counts) ≤ choices_by t i counts
-choices_by-front t i zero counts = omega arith
-choices_by-front t i (suc k) [] = omega arith
-choices_by-front t i (suc k) (n ∷ counts) = let later = choices_by-front t (suc i) k counts in omega arith
+pub choices_from-front : (t : Tree) (i k : ℕ) (counts : List ℕ) → choices_from t i (take k counts) ≤ choices_from t i counts
+choices_from-front t i zero counts = omega arith
+choices_from-front t i (suc k) [] = omega arith
+choices_from-front t i (suc k) (n ∷ counts) = let later = choices_from-front t (i + 1) k counts in omega (arith, choices_from-cons t i n counts, choices_from-cons t i n (take k counts))
 
 -- the same of the whole form
-pub choice_count-by : (t : Tree) (strategies : List (List (List ℕ))) (counts : List ℕ) → counts ≡ map length strategies → choice_count t strategies ≡ choices_by t 0 counts
-choice_count-by t strategies counts e = ap (choices_by t 0) (sym e)
+pub choice_count-by : (t : Tree) (strategies : List (List (List ℕ))) (counts : List ℕ) → counts ≡ map length strategies → choice_count t strategies ≡ choices_of t counts
+choice_count-by t strategies counts e = ap (choices_of t) (sym e)
 
 -- the first players alone have too many choices
-pub many-choices : (t : Tree) (counts : List ℕ) (k : ℕ) → AreCounted t counts → t.players * profile_count counts ≤ most_payoffs → most_choices < choices_by t 0 (take k counts) → counts_in t (Err (stops.TooLarge (first_above what.Choices most_choices)))
+pub many-choices : (t : Tree) (counts : List ℕ) (k : ℕ) → AreCounted t counts → t.players * profile_count counts ≤ most_payoffs → most_choices < choices_of t (take k counts) → counts_in t (Err (stops.TooLarge (first_above what.Choices most_choices)))
 many-choices t counts k h few many =
-    let front = choices_by-front t 0 k counts in
+    let front = choices_from-front t 0 k counts in
     let whole = choice_count-by t h.strategies counts h.counts_are in
     let payoffs = subst (λ x. t.players * profile_count x ≤ most_payoffs) h.counts_are few in
     inr (h.strategies, h.are_strategies, (first_above what.Choices most_choices, inr (tt, (λ more. omega arith), (omega arith, refl)), refl))
@@ -222,11 +231,11 @@ counted-same t counts strategies h a =
     get_or-map length h.strategies i [] 0 inside ∙ count_is t strategies i (length list) a (omega (arith, a.one_for_each)) has)
 
 -- the choices of the players up to one
-pub choices-step : (t : Tree) (counts : List ℕ) (player choices own : ℕ) → AreCounted t counts → player < t.players → choices ≡ choices_by t 0 (take player counts) → own ≡ length (own_sets t player)
-    → choices + get_or counts player 0 * own ≡ choices_by t 0 (take (player + 1) counts)
+pub choices-step : (t : Tree) (counts : List ℕ) (player choices own : ℕ) → AreCounted t counts → player < t.players → choices ≡ choices_of t (take player counts) → own ≡ length (own_sets t player)
+    → choices + get_or counts player 0 * own ≡ choices_of t (take (player + 1) counts)
 choices-step t counts player choices own h l is here =
     let inside : player < length counts = omega (arith, ap length h.counts_are, length-map h.strategies (length {A = List ℕ}), h.are_strategies.one_for_each) in
-    ap₂ (λ x y. x + get_or counts player 0 * y) is here ∙ sym (choices_by-next t counts player inside)
+    ap₂ (λ x y. x + get_or counts player 0 * y) is here ∙ sym (choices_of-next t counts player inside)
 
 -- no player has more strategies than a form has payoffs
 pub few_strategies : (t : Tree) (counts : List ℕ) (i : ℕ) → IsTree t → AreCounted t counts → 0 < t.players → t.players * profile_count counts ≤ most_payoffs → get_or counts i 0 ≤ most_payoffs

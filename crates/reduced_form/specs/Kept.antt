@@ -1,6 +1,6 @@
 -- The table over the strategies that are kept where strictly dominated ones are removed, and why
 -- there is none. Source: Luce and Raiffa 1957. Players, strategies and profiles count from 0.
-use Rattle.std.specs.Prelude.{ℕ, ◌≡◌, ◌≢◌, List, [], ◌∷◌, length, map, get_or, sum, refl}
+use Rattle.std.specs.Prelude.{ℕ, ◌≡◌, ◌≢◌, List, [], ◌∷◌, length, map, slice_index_or, sum, refl}
 use Rattle.std.specs.List.{zip}
 use Rattle.std.specs.Coded.{Coded, code_by, coded×, coded_ℕ, coded_list}
 use Rattle.answers.specs.Answers.{Answer, ◌>>◌, refuse_where, refused_by, such_that}
@@ -32,7 +32,7 @@ kept_lists kept = kept.first ∷ kept.second ∷ []
 -- the players' names at these places
 abbrev pub kept_names : List (List (List ℕ)) → List (List ℕ) → List (List (List ℕ))
 kept_names players lists =
-    map (λ p. map (λ place. get_or p.0 place []) p.1) (zip players lists)
+    map (λ p. map (λ place. slice_index_or p.0 place []) p.1) (zip players lists)
 
 -- The table over the kept strategies: they have their names, and each profile pays what it pays in
 -- the whole table.

@@ -1,6 +1,6 @@
 -- The sizes of a tree's reduced form and their limits, and the steps of its cells.
-use Rattle.std.specs.Prelude.{ℕ, suc, ◌+◌, ◌*◌, List, [], ◌∷◌, length, map}
-use Rattle.std.specs.List.{flat_map, range_with_len}
+use Rattle.std.specs.Prelude.{ℕ, ◌*◌, List, length, map}
+use Rattle.std.specs.List.{enumerate_from, flat_map, range_with_len, sum_by}
 use Rattle.game_theory.specs.OwnSets.{own_sets}
 use Rattle.game_theory.specs.Profiles.{profile_count, profile_at}
 use Rattle.game_theory.specs.Trees.{Tree}
@@ -16,21 +16,20 @@ most_choices = 67108864
 abbrev pub payoff_count : Tree → List (List (List ℕ)) → ℕ
 payoff_count t strategies = t.players * profile_count (map length strategies)
 
--- strategies times own sets, added over the players from player i on, by the numbers of strategies
-abbrev pub choices_by : Tree → ℕ → List ℕ → ℕ
-choices_by t i [] = 0
-choices_by t i (n ∷ counts) = n * length (own_sets t i) + choices_by t (suc i) counts
+-- how many choices these numbers of strategies give: strategies times own sets, added over the players
+abbrev pub choices_of : Tree → List ℕ → ℕ
+choices_of t counts = sum_by (λ p. p.1 * length (own_sets t p.0)) (enumerate_from 0 counts)
 
 -- how many choices the form over these strategies has
 abbrev pub choice_count : Tree → List (List (List ℕ)) → ℕ
-choice_count t strategies = choices_by t 0 (map length strategies)
+choice_count t strategies = choices_of t (map length strategies)
 
--- a cell: a profile and a player
-abbrev pub Place : Type 0
-Place = ℕ × ℕ
+-- the index of a cell: a profile and a player
+abbrev pub CellIndex : Type 0
+CellIndex = ℕ × ℕ
 
 -- the cells of the form over these strategies: profiles in order, and in each the players
-abbrev pub cells : Tree → List (List (List ℕ)) → List Place
+abbrev pub cells : Tree → List (List (List ℕ)) → List CellIndex
 cells t strategies =
     flat_map (λ k. map (λ i. (k, i)) (range_with_len 0 t.players))
     (range_with_len 0 (profile_count (map length strategies)))

@@ -8,7 +8,7 @@ ghost use Rattle.game_core.specs.TreeGame.{game_of_tree};
 ghost use Rattle.game_theory.specs.Lines.{listed};
 ghost use Rattle.pure_payoffs.specs.Choices.{AreChoices};
 ghost use Rattle.pure_payoffs.specs.Plays.{choice_of, game_of};
-ghost use Rattle.pure_payoffs.specs.Stops.{payoffs_in};
+ghost use Rattle.pure_payoffs.specs.Stops.{payoffs_fit};
 ghost use Rattle.reduced_strategies.specs.Places.{ArePlaces};
 ghost use Rattle.reduced_strategies.specs.StrategicForm.{AreStrategies};
 ghost use Rattle.reduced_form.specs.Cells.{AreCells, at_profile};
@@ -54,7 +54,7 @@ fn push_cells(
         OnOk result
         (payoffs.new.items ≡ payoffs.old.items ++ listed t.players (payoff t (pure choice))) }
     ensures stop { Gives stops.Memory
-        (refused_by (at_profile number) (payoffs_in (game_of play.now) (choice_of play.now)))
+        (refused_by (at_profile number) (payoffs_fit (game_of play.now) (choice_of play.now)))
         result }
 {
     match play.push_payoffs(shortcuts, payoffs) {

@@ -16,7 +16,7 @@ use std::alloc::Global;
 use std::marker::Model;
 
 /// The most strategies of both players together.
-pub const MOST_STRATEGIES: u64 = 512;
+const MOST_STRATEGIES: u64 = 512;
 
 /// The strategies of two players that are kept where strictly dominated ones are removed, round by
 /// round, and the table over them. Strategies are numbered from 0.

@@ -22,7 +22,7 @@ mod stop;
 mod strategies;
 
 pub use form::{Reduced, forms_are_single, reduce};
-pub use kept::{Kept, MOST_STRATEGIES, kept_forms_are_single, undominated};
+pub use kept::{Kept, kept_forms_are_single, undominated};
 pub use kept_stop::KeptStop;
 pub use stop::ReduceStop;
 pub use strategies::Strategies;

@@ -6,7 +6,7 @@ ghost use Rattle.game_core.specs.Table.{most_payoffs};
 ghost use Rattle.game_core.specs.TreeGame.{game_of_tree};
 ghost use Rattle.reduced_form.specs.declared.stop.ReduceStop.TheVariants as stops;
 ghost use Rattle.reduced_form.specs.Counts.{AreCounted, counts_in};
-ghost use Rattle.reduced_form.specs.Limits.{choices_by, most_choices};
+ghost use Rattle.reduced_form.specs.Limits.{choices_of, most_choices};
 ghost use Rattle.game_core.specs.Limits.{first_above};
 ghost use Rattle.game_core.specs.declared.too_large.What.TheVariants as what;
 ghost use Rattle.game_theory.specs.OwnSets.{own_sets};
@@ -76,7 +76,7 @@ fn own_set_count(tree: &Tree, player: u32) -> usize
 pub fn check_choices(tree: &Tree, counts: &[usize]) -> Result<(), ReduceStop>
     requires counted { AreCounted (game_of_tree tree.now) counts.now }
     requires few { length tree.now.players * profile_count counts.now ≤ most_payoffs }
-    ensures few { OnOk result (choices_by (game_of_tree tree.now) 0 counts.now ≤ most_choices) }
+    ensures few { OnOk result (choices_of (game_of_tree tree.now) counts.now ≤ most_choices) }
     ensures stop { IfErr result
         (λ stop. Gives stops.Memory (counts_in (game_of_tree tree.now)) (Err stop)) }
 {

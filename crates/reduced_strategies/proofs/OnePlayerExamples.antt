@@ -6,7 +6,7 @@ use Rattle.game_theory.proofs.OwnSetLemmas.{own_sets-tell}
 use Rattle.game_theory.specs.Trees.{Tree, IsTree}
 use Rattle.game_theory.proofs.TreeTestLemmas.{tree-tested, coin_toss}
 use Rattle.reduced_strategies.specs.Choices.{choice_at, IsReachedUnder, IsReduced}
-use Rattle.reduced_strategies.specs.Examples.{alone, renumbered, ReducedStrategiesOfOnePlayer}
+use Rattle.reduced_strategies.specs.Examples.{one_player_tree, renumbered, ReducedStrategiesOfOnePlayer}
 use Rattle.reduced_strategies.proofs.SetLemmas.{choice_at-among}
 
 -- ---- a tree that ends or goes on
@@ -94,22 +94,22 @@ below_two (suc (suc s)) l = absurd (omega arith)
 
 -- ---- the tree as it is numbered
 -- it is a tree
-alone-tree : IsTree alone
-alone-tree =
-    tree-tested alone (record { some_node = refl; nodes = refl; edges = refl; sets = refl }) (λ s l e. coin_toss alone s refl (λ a. refl))
+one_player-tree : IsTree one_player_tree
+one_player-tree =
+    tree-tested one_player_tree (record { some_node = refl; nodes = refl; edges = refl; sets = refl }) (λ s l e. coin_toss one_player_tree s refl (λ a. refl))
 
 -- the second set is reached by the second action at the first alone
-alone-second : (choice : ℕ → ℕ) → IsReachedUnder alone 0 choice 1 → choice 0 ≡ 2
-alone-second choice (zero, l, e, h) = cc
-alone-second choice (suc zero, l, e, h) = cc
-alone-second choice (suc (suc zero), l, e, h) = h.0
-alone-second choice (suc (suc (suc zero)), l, e, h) = cc
-alone-second choice (suc (suc (suc (suc zero))), l, e, h) = cc
-alone-second choice (suc (suc (suc (suc (suc k)))), l, e, h) = absurd (omega arith)
+one_player-second : (choice : ℕ → ℕ) → IsReachedUnder one_player_tree 0 choice 1 → choice 0 ≡ 2
+one_player-second choice (zero, l, e, h) = cc
+one_player-second choice (suc zero, l, e, h) = cc
+one_player-second choice (suc (suc zero), l, e, h) = h.0
+one_player-second choice (suc (suc (suc zero)), l, e, h) = cc
+one_player-second choice (suc (suc (suc (suc zero))), l, e, h) = cc
+one_player-second choice (suc (suc (suc (suc (suc k)))), l, e, h) = absurd (omega arith)
 
 -- it ends or goes on
-alone-goes_on : EndsOrGoesOn alone 0 1
-alone-goes_on =
+one_player-goes_on : EndsOrGoesOn one_player_tree 0 1
+one_player-goes_on =
     record {
       first_set = omega arith;
       first_own = refl;
@@ -118,26 +118,26 @@ alone-goes_on =
       no_other_set = below_two;
       two_actions = λ s. refl;
       first_reached = λ choice. (0, omega arith, refl, tt);
-      second_reached = λ choice. (alone-second choice, λ e. (2, omega arith, refl, (e, tt)));
+      second_reached = λ choice. (one_player-second choice, λ e. (2, omega arith, refl, (e, tt)));
     }
 
 -- its reduced strategies
-abbrev alone_three : List (List ℕ)
-alone_three = (1 ∷ 0 ∷ []) ∷ (2 ∷ 1 ∷ []) ∷ (2 ∷ 2 ∷ []) ∷ []
+abbrev one_player_three : List (List ℕ)
+one_player_three = (1 ∷ 0 ∷ []) ∷ (2 ∷ 1 ∷ []) ∷ (2 ∷ 2 ∷ []) ∷ []
 
 -- each is a reduced strategy
-alone-sound : All (IsReduced alone 0) alone_three
-alone-sound zero d l = one-reduced alone 0 1 (1 ∷ 0 ∷ []) alone-goes_on refl ends
-alone-sound (suc zero) d l = one-reduced alone 0 1 (2 ∷ 1 ∷ []) alone-goes_on refl (goes_on 1 (omega arith) (omega arith))
-alone-sound (suc (suc zero)) d l = one-reduced alone 0 1 (2 ∷ 2 ∷ []) alone-goes_on refl (goes_on 2 (omega arith) (omega arith))
-alone-sound (suc (suc (suc k))) d l = absurd (omega arith)
+one_player-sound : All (IsReduced one_player_tree 0) one_player_three
+one_player-sound zero d l = one-reduced one_player_tree 0 1 (1 ∷ 0 ∷ []) one_player-goes_on refl ends
+one_player-sound (suc zero) d l = one-reduced one_player_tree 0 1 (2 ∷ 1 ∷ []) one_player-goes_on refl (goes_on 1 (omega arith) (omega arith))
+one_player-sound (suc (suc zero)) d l = one-reduced one_player_tree 0 1 (2 ∷ 2 ∷ []) one_player-goes_on refl (goes_on 2 (omega arith) (omega arith))
+one_player-sound (suc (suc (suc k))) d l = absurd (omega arith)
 
 -- each reduced strategy is one of the three
-alone-complete : (choices : List ℕ) → IsReduced alone 0 choices → Contains alone_three choices
-alone-complete [] r = absurd (omega (arith, r.one_for_each))
-alone-complete (x ∷ []) r = absurd (omega (arith, r.one_for_each))
-alone-complete (x ∷ y ∷ z ∷ choices) r = absurd (omega (arith, r.one_for_each))
-alone-complete (x ∷ y ∷ []) r = elim (one-cases x y (reduced-one alone 0 1 (x ∷ y ∷ []) alone-goes_on r)) [
+one_player-complete : (choices : List ℕ) → IsReduced one_player_tree 0 choices → Contains one_player_three choices
+one_player-complete [] r = absurd (omega (arith, r.one_for_each))
+one_player-complete (x ∷ []) r = absurd (omega (arith, r.one_for_each))
+one_player-complete (x ∷ y ∷ z ∷ choices) r = absurd (omega (arith, r.one_for_each))
+one_player-complete (x ∷ y ∷ []) r = elim (one-cases x y (reduced-one one_player_tree 0 1 (x ∷ y ∷ []) one_player-goes_on r)) [
   | inl p ↦ (0, omega arith, cc (p.0, p.1))
   | inr q ↦ elim q [ inl p ↦ (1, omega arith, cc (p.0, p.1)) | inr p ↦ (2, omega arith, cc (p.0, p.1)) ]
 ]
@@ -193,11 +193,11 @@ renumbered-complete (x ∷ y ∷ []) r = elim (one-cases y x (reduced-one renumb
 ]
 
 -- the law of the tree
-pub alone-strategies : ReducedStrategiesOfOnePlayer
-alone-strategies =
+pub one_player-strategies : ReducedStrategiesOfOnePlayer
+one_player-strategies =
     record {
-      tree = alone-tree;
-      strategies = record { ascending = (inl (omega arith), (inr (refl, inl (omega arith)), tt)); sound = alone-sound; complete = alone-complete };
+      tree = one_player-tree;
+      strategies = record { ascending = (inl (omega arith), (inr (refl, inl (omega arith)), tt)); sound = one_player-sound; complete = one_player-complete };
       renumbered_tree = renumbered-tree;
       renumbered_strategies = record { ascending = (inl (omega arith), (inl (omega arith), tt)); sound = renumbered-sound; complete = renumbered-complete };
     }

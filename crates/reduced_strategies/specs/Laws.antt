@@ -24,13 +24,14 @@ FirstActionsComplete =
     (t : Tree) (strategies : List (List (List ℕ))) (profile : List ℕ) → IsTree t → AreStrategies t strategies
     → IsProfile (map length strategies) profile → IsCompletion t strategies profile (completed t strategies profile)
 
--- every choice of actions has its reduced strategy, which it completes, and completes no other
+-- the one reduced strategy that a choice completes
 pub record HasReduced (t : Tree) (i : ℕ) (choice : ℕ → ℕ) : Type 0 where
   pub choices : List ℕ
   pub is_reduced : IsReduced t i choices
   pub is_completed : (s : ℕ) → 0 < choice_at (own_sets t i) choices s → choice_at (own_sets t i) choices s ≡ suc (choice s)
   pub only_one : (other : List ℕ) → IsReduced t i other → ((s : ℕ) → 0 < choice_at (own_sets t i) other s → choice_at (own_sets t i) other s ≡ suc (choice s)) → other ≡ choices
 
+-- every choice of actions has its reduced strategy, which it completes, and completes no other
 abbrev pub ChoicesHaveReduced : Type 0
 ChoicesHaveReduced = (t : Tree) (i : ℕ) (choice : ℕ → ℕ) → IsTree t → IsChoice t i choice → HasReduced t i choice
 

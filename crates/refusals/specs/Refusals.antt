@@ -46,17 +46,20 @@ abbrev pub run_status : Option Refusal → ℕ
 run_status None = 0
 run_status (Some r) = status_of r
 
+-- what is wrong with the words
 abbrev pub usage_text : Usage → List ℕ
 usage_text usage.NoTool = codes "no tool"
 usage_text usage.UnknownTool = codes "unknown tool"
 usage_text usage.Words = codes "words not understood"
 
+-- the kind of a fault of a text
 abbrev pub text_kind_text : TextKind → List ℕ
 text_kind_text text_kind.BadChar = codes "bad character"
 text_kind_text text_kind.OpenText = codes "unclosed text"
 text_kind_text text_kind.BadNumber = codes "bad number"
 text_kind_text text_kind.NumberTooLarge = codes "number too large"
 
+-- the kind of a fault of a file of a table
 abbrev pub nfg_kind_text : NfgKind → List ℕ
 nfg_kind_text nfg_kind.Header = codes "header"
 nfg_kind_text nfg_kind.Players = codes "players"
@@ -65,12 +68,14 @@ nfg_kind_text nfg_kind.Outcome = codes "outcome"
 nfg_kind_text nfg_kind.PayoffCount = codes "payoff count"
 nfg_kind_text nfg_kind.Trailing = codes "trailing"
 
+-- an operation
 abbrev pub op_text : Op → List ℕ
 op_text Add = codes "add"
 op_text Sub = codes "sub"
 op_text Mul = codes "mul"
 op_text Div = codes "div"
 
+-- the kind of a fault of a file of a tree
 abbrev pub efg_kind_text : EfgKind → List ℕ
 efg_kind_text efg_kind.Header = codes "header"
 efg_kind_text efg_kind.Players = codes "players"
@@ -84,6 +89,7 @@ efg_kind_text efg_kind.OutcomeMismatch = codes "outcome mismatch"
 efg_kind_text efg_kind.Unfinished = codes "unfinished"
 efg_kind_text efg_kind.Trailing = codes "trailing"
 
+-- what there are too many of
 abbrev pub what_text : What → List ℕ
 what_text what.Payoffs = codes "payoffs"
 what_text what.Choices = codes "choices"
@@ -180,6 +186,6 @@ HasFormedLine refusal.TooLong = ⊥
 HasFormedLine refusal.Memory = ⊥
 HasFormedLine _ = Unit {0}
 
--- the refusal that is told: itself, or want of memory where its line could not be formed
+-- the refusal that is told: itself, or want of memory where its line takes memory to form
 abbrev pub IsToldAs : Refusal → Refusal → Type 0
 IsToldAs r told = (told ≡ r) ⊎ (HasFormedLine r × (told ≡ refusal.Memory))

@@ -37,32 +37,39 @@ use Rattle.refusals.specs.declared.refusal.Site.TheVariants as site
 use Rattle.refusals.specs.declared.refusal.Refusal.{Refusal}
 use Rattle.refusals.specs.declared.refusal.Refusal.TheVariants as refusal
 
+-- the refusal that tells of a limit that is passed
 abbrev pub limit_refusal : TooLarge → Refusal
 limit_refusal limit = refusal.TooLarge limit.what limit.count limit.limit
 
+-- the refusal that tells why a text is not read
 abbrev pub text_refusal : TextStop → Refusal
 text_refusal (text_stop.Fault fault) = refusal.Text fault
 text_refusal text_stop.Memory = refusal.Memory
 
+-- the refusal that tells why a table's file is not read
 abbrev pub nfg_refusal : NfgStop → Refusal
 nfg_refusal (nfg_stop.Fault fault) = refusal.Nfg fault
 nfg_refusal (nfg_stop.TooLarge limit) = limit_refusal limit
 nfg_refusal nfg_stop.Memory = refusal.Memory
 
+-- the refusal that tells why a tree's file is not read
 abbrev pub efg_refusal : EfgStop → Refusal
 efg_refusal (efg_stop.Fault fault) = refusal.Efg fault
 efg_refusal (efg_stop.TooLarge limit) = limit_refusal limit
 efg_refusal efg_stop.Memory = refusal.Memory
 
+-- the refusal that tells why there is no reduced form
 abbrev pub form_refusal : ReduceStop → Refusal
 form_refusal (reduce_stop.TooLarge limit) = limit_refusal limit
 form_refusal (reduce_stop.Range profile player step) = refusal.Range (site.Cell profile player) step
 form_refusal reduce_stop.Memory = refusal.Memory
 
+-- the refusal that tells why lines are not listed
 abbrev pub list_refusal : ListStop → Refusal
 list_refusal (list_stop.TooLarge limit) = limit_refusal limit
 list_refusal list_stop.Memory = refusal.Memory
 
+-- the refusal that tells why the choices that pass are not listed
 abbrev pub choice_refusal : ChoiceStop → Refusal
 choice_refusal (choice_stop.TooLarge limit) = limit_refusal limit
 choice_refusal (choice_stop.Range choice node player step) =
@@ -70,15 +77,18 @@ choice_refusal (choice_stop.Range choice node player step) =
 choice_refusal choice_stop.Memory = refusal.Memory
 
 -- ---- tools for two players
+-- the refusal that tells why recall is not found
 abbrev pub recall_refusal : RecallStop → Refusal
 recall_refusal (recall_stop.Forgets f) = refusal.Forgets f.player f.set f.first_node f.second_node
 recall_refusal recall_stop.Memory = refusal.Memory
 
+-- the refusal that tells why there is no sequence form
 abbrev pub sequence_refusal : SeqStop → Refusal
 sequence_refusal (sequence_stop.NotTwoPlayers count) = refusal.NotTwoPlayers count
 sequence_refusal (sequence_stop.Range place step) = refusal.Range (site.Place place) step
 sequence_refusal sequence_stop.Memory = refusal.Memory
 
+-- the refusal that tells why there is no linear program
 abbrev pub program_refusal : LpStop → Refusal
 program_refusal (lp_stop.TooLarge limit) = limit_refusal limit
 program_refusal (lp_stop.SumRange place step) = refusal.Range (site.Sum place) step
@@ -88,13 +98,16 @@ program_refusal (lp_stop.GainRange row column step) = refusal.Range (site.Gain r
 program_refusal (lp_stop.Start row step) = refusal.Range (site.Start row) step
 program_refusal lp_stop.Memory = refusal.Memory
 
+-- the refusal that tells of a pivot with a step that does not fit
 abbrev pub pivot_refusal : UnfitPivot → Refusal
 pivot_refusal stop = refusal.Range (site.Step stop.number stop.entering) stop.unfit
 
+-- the refusal that tells why there are no plans
 abbrev pub plan_refusal : PlanStop → Refusal
 plan_refusal (plan_stop.Range player step) = refusal.Range (site.Plan player) step
 plan_refusal plan_stop.Memory = refusal.Memory
 
+-- the refusal that tells why there is no complementarity problem
 abbrev pub problem_refusal : LcpStop → Refusal
 problem_refusal (lcp_stop.TooLarge limit) = limit_refusal limit
 problem_refusal (lcp_stop.Range player row column step) =
@@ -102,11 +115,13 @@ problem_refusal (lcp_stop.Range player row column step) =
 problem_refusal (lcp_stop.Start row step) = refusal.Range (site.Start row) step
 problem_refusal lcp_stop.Memory = refusal.Memory
 
+-- the refusal that tells why there is no behaviour
 abbrev pub behaviour_refusal : BehaviourStop → Refusal
 behaviour_refusal (behaviour_stop.Range player set step) =
     refusal.Range (site.Behaviour player set) step
 behaviour_refusal behaviour_stop.Memory = refusal.Memory
 
+-- the refusal that tells why extreme equilibria are not listed
 abbrev pub mixed_refusal : MixedStop → Refusal
 mixed_refusal (mixed_stop.NotTwoPlayers count) = refusal.NotTwoPlayers count
 mixed_refusal (mixed_stop.TooLarge limit) = limit_refusal limit
@@ -119,19 +134,21 @@ mixed_refusal (mixed_stop.Range polytope level basis entering step) =
 mixed_refusal (mixed_stop.Scale polytope step) = refusal.Range (site.Scaling polytope) step
 mixed_refusal mixed_stop.Memory = refusal.Memory
 
+-- the refusal that tells why a table is not written
 abbrev pub convert_refusal : ConvertStop → Refusal
 convert_refusal (convert_stop.NoSuchPlayer number) = refusal.NoSuchPlayer number
 convert_refusal (convert_stop.SamePlayer number) = refusal.SamePlayer number
 convert_refusal (convert_stop.TooLarge limit) = limit_refusal limit
 convert_refusal convert_stop.Memory = refusal.Memory
 
+-- the refusal that tells why lines are not checked
 abbrev pub check_refusal : CheckStop → Refusal
 check_refusal (check_stop.BadLine line) = refusal.BadLine line
 check_refusal (check_stop.Range line step) = refusal.Range (site.Line line) step
 check_refusal (check_stop.TooLarge limit) = limit_refusal limit
 check_refusal check_stop.Memory = refusal.Memory
 
--- dominated strategies are not set aside
+-- the refusal that tells why dominated strategies are not looked for
 abbrev pub kept_refusal : KeptStop → Refusal
 kept_refusal (kept_stop.NotTwoPlayers count) = refusal.NotTwoPlayers count
 kept_refusal (kept_stop.TooLarge limit) = limit_refusal limit

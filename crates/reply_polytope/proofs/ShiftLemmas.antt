@@ -9,7 +9,7 @@ use Rattle.answers.proofs.AnswerLemmas.{only-single, single-exclude, single-valu
 use Rattle.rational.specs.Rational.{ℚ, ◌+ℚ◌, one_ℚ}
 use Rattle.rational.specs.Extremes.{IsLeast}
 use Rattle.game_theory.specs.Profiles.{Game, profile_count}
-use Rattle.frac128.specs.Steps.{AddFits, SubFits, unfit, Step, StepFits, IsFirstUnfit}
+use Rattle.frac128.specs.Steps.{AddFits, SubFits, step_of, Step, StepFits, IsFirstUnfit}
 use Rattle.frac128.specs.declared.steps.Op.TheVariants.{Add, Sub}
 use Rattle.frac128.specs.FirstUnfit.{StepsFit, IsFirstUnfitOf}
 use Rattle.frac128.proofs.StepRunLemmas.{first_unfit-following, first_unfit-here, one-fits}
@@ -42,14 +42,14 @@ module _ (u : ℕ → ℚ) (least : ℚ) (n : ℕ) where
   is_there k d l = omega (arith, get_or-range_with_len 0 n k d l)
 
   -- 1 less the least payoff does not fit
-  pub unfit_difference : 0 < n → (SubFits one_ℚ least → ⊥) → IsFirstUnfitOf (shift_steps u least) profiles 0 (unfit Sub one_ℚ least)
+  pub unfit_difference : 0 < n → (SubFits one_ℚ least → ⊥) → IsFirstUnfitOf (shift_steps u least) profiles 0 (step_of Sub one_ℚ least)
   unfit_difference l refused =
-      first_unfit_here (shift_steps u least) profiles 0 0 (omega (arith, long, l)) (sym (is_there 0 0 l)) (unfit Sub one_ℚ least) (All-nil (StepsFit (shift_steps u least)))
-      (first_unfit-here (unfit Sub one_ℚ least) (unfit Add (u 0) (shift_of least) ∷ []) refused)
+      first_unfit_here (shift_steps u least) profiles 0 0 (omega (arith, long, l)) (sym (is_there 0 0 l)) (step_of Sub one_ℚ least) (All-nil (StepsFit (shift_steps u least)))
+      (first_unfit-here (step_of Sub one_ℚ least) (step_of Add (u 0) (shift_of least) ∷ []) refused)
 
   module _ (difference : SubFits one_ℚ least) where
     fit_at : (k : ℕ) → AddFits (u k) (shift_of least) → StepsFit (shift_steps u least) k
-    fit_at k sum = fit_both (unfit Sub one_ℚ least) (unfit Add (u k) (shift_of least)) (k == 0) difference sum
+    fit_at k sum = fit_both (step_of Sub one_ℚ least) (step_of Add (u k) (shift_of least)) (k == 0) difference sum
 
     -- the steps of the first k profiles fit
     fit_before : (k : ℕ) → k ≤ n → ((j : ℕ) → j < k → AddFits (u j) (shift_of least)) → All (StepsFit (shift_steps u least)) (take k profiles)
@@ -58,10 +58,10 @@ module _ (u : ℕ → ℚ) (least : ℚ) (n : ℕ) where
         subst (StepsFit (shift_steps u least)) (sym (get_or-take k profiles j d before ∙ is_there j d (omega (arith, before, l)))) (fit_at j (sums j before))
 
     -- and those of profile k do not
-    pub unfit_sum : (k : ℕ) → k < n → ((j : ℕ) → j < k → AddFits (u j) (shift_of least)) → (AddFits (u k) (shift_of least) → ⊥) → IsFirstUnfitOf (shift_steps u least) profiles k (unfit Add (u k) (shift_of least))
+    pub unfit_sum : (k : ℕ) → k < n → ((j : ℕ) → j < k → AddFits (u j) (shift_of least)) → (AddFits (u k) (shift_of least) → ⊥) → IsFirstUnfitOf (shift_steps u least) profiles k (step_of Add (u k) (shift_of least))
     unfit_sum k l sums refused =
-        first_unfit_here (shift_steps u least) profiles k k (omega (arith, long, l)) (sym (is_there k k l)) (unfit Add (u k) (shift_of least)) (fit_before k (omega (arith, l)) sums)
-        (unfit_second (unfit Sub one_ℚ least) (unfit Add (u k) (shift_of least)) (k == 0) difference refused)
+        first_unfit_here (shift_steps u least) profiles k k (omega (arith, long, l)) (sym (is_there k k l)) (step_of Add (u k) (shift_of least)) (fit_before k (omega (arith, l)) sums)
+        (unfit_second (step_of Sub one_ℚ least) (step_of Add (u k) (shift_of least)) (k == 0) difference refused)
 
     -- all steps fit
     pub all_shifts_fit : ((k : ℕ) → k < n → AddFits (u k) (shift_of least)) → All (StepsFit (shift_steps u least)) profiles

@@ -6,7 +6,7 @@ use Rattle.rational.specs.Rational.{ℚ, zero_ℚ}
 use Rattle.linear_systems.specs.Rows.{HasDistinctVariables, Alike}
 use Rattle.linear_systems.proofs.AgreementLemmas.{alike_distinct}
 use Rattle.lex_tableau.specs.Entries.{AreEntries, AreNumbered}
-use Rattle.lex_tableau.specs.Starts.{parts_of, system_of, IsSystem}
+use Rattle.lex_tableau.specs.Starts.{linear_system, system_of, IsSystem}
 use Rattle.lex_tableau.proofs.EntryLemmas.{cell_at, right_at}
 use Rattle.reply_polytope.specs.declared.systems.Shape.{Shape}
 use Rattle.reply_polytope.specs.Polytopes.{IsRatedSystem}
@@ -21,7 +21,7 @@ shape_distinct count numbers s h =
     apart i j a b e = elim h.apart [ inl l ↦ omega (arith, a, b, e, l) | inr l ↦ omega (arith, a, b, e, l) ]
 
 module _ (count : ℕ) (numbers : List ℚ) (s : Shape) (readable : IsReadable count s) (basics nonbasics : List ℕ) (cells : List ℚ) (basics_are : AreNumbered s.first_basic s.rows basics) (nonbasics_are : AreNumbered s.first_nonbasic s.width nonbasics) (cells_are : AreEntries (slack_system numbers s) (s.width + 1) (s.rows * (s.width + 1)) cells) where
-  is_alike : Alike (slack_system numbers s) (system_of (parts_of basics nonbasics cells s.rows))
+  is_alike : Alike (slack_system numbers s) (system_of (linear_system basics nonbasics cells s.rows))
   is_alike =
       record {
         rows = sym basics_are.length_is;
@@ -32,10 +32,10 @@ module _ (count : ℕ) (numbers : List ℚ) (s : Shape) (readable : IsReadable c
         right = λ i a. right_at (slack_system numbers s) s.rows s.width cells cells_are i a refl ∙ ap (λ w. get_or cells (i * (w + 1) + w) zero_ℚ) (sym nonbasics_are.length_is);
       }
 
-  is_valid : IsSystem (parts_of basics nonbasics cells s.rows)
+  is_valid : IsSystem (linear_system basics nonbasics cells s.rows)
   is_valid =
       record {
-        distinct = alike_distinct (slack_system numbers s) (system_of (parts_of basics nonbasics cells s.rows)) is_alike (shape_distinct count numbers s readable);
+        distinct = alike_distinct (slack_system numbers s) (system_of (linear_system basics nonbasics cells s.rows)) is_alike (shape_distinct count numbers s readable);
         shape = cells_are.count ∙ ap₂ (λ r w. r * (w + 1)) (sym basics_are.length_is) (sym nonbasics_are.length_is);
         rated = omega (arith, basics_are.length_is);
         basics_small = basics_small;
@@ -55,5 +55,5 @@ module _ (count : ℕ) (numbers : List ℚ) (s : Shape) (readable : IsReadable c
         | inr l ↦ omega (arith, get_or_past nonbasics j 0 (omega (arith, nonbasics_are.length_is, l)))
       ]
 
-  pub rated_system : IsRatedSystem (slack_system numbers s) (parts_of basics nonbasics cells s.rows)
+  pub rated_system : IsRatedSystem (slack_system numbers s) (linear_system basics nonbasics cells s.rows)
   rated_system = record { valid = is_valid; alike = is_alike; rated = refl }

@@ -6,7 +6,7 @@ use Rattle.answers.specs.Answers.{Answer, ◌>>=◌, ◌>>◌, only, such_that, 
 use Rattle.rational.specs.Rational.{ℚ, one_ℚ}
 use Rattle.rational.specs.Extremes.{IsLeast}
 use Rattle.game_theory.specs.Profiles.{Game, profile_count}
-use Rattle.frac128.specs.Steps.{unfit, Step}
+use Rattle.frac128.specs.Steps.{step_of, Step}
 use Rattle.frac128.specs.declared.steps.Op.TheVariants.{Add, Sub}
 use Rattle.frac128.specs.FirstUnfit.{all_fit}
 use Rattle.extreme_equilibria.specs.Bimatrix.{shift_of}
@@ -24,7 +24,7 @@ least_of g i = such_that (IsLeast (payoffs_of g i))
 -- the steps at profile k: at the first one 1 less the least payoff, and then the payoff plus this
 abbrev pub shift_steps : (ℕ → ℚ) → ℚ → ℕ → List Step
 shift_steps u least k =
-    (if k == 0 then unfit Sub one_ℚ least ∷ [] else []) ++ unfit Add (u k) (shift_of least) ∷ []
+    (if k == 0 then step_of Sub one_ℚ least ∷ [] else []) ++ step_of Add (u k) (shift_of least) ∷ []
 
 -- the shifts by it of all payoffs fit; or the first step that does not, with its profile
 abbrev pub shifts_in : Game → ℕ → ℚ → Answer PolyStop (Unit {0})

@@ -28,6 +28,6 @@ polytopes_in g =
     >> (refused_by stops.TooLarge (within what.Labels most_labels (label_count g))
     >> (shift_in g 0 >>= (λ one. shift_in g 1 >>= (λ two. systems_of g one two))))
 
--- A game has one pair of systems, or one reason why it has none.
+-- A game has at most one answer: a pair of systems, or the reason why it has none.
 abbrev pub PolytopesAreSingle : Type 0
 PolytopesAreSingle = (g : Game) → IsSingle (polytopes_in g)

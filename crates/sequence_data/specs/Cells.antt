@@ -13,10 +13,11 @@ placed_numbers f leaves = map (λ l. (l.row, l.column, f l)) leaves
 abbrev pub total : (Leaf → ℚ) → List Leaf → ℕ → ℕ → ℚ
 total f leaves r q = listed_at (placed_numbers f leaves) r q
 
--- chance times the payoff of a player
+-- chance times the payoff of player 0
 abbrev pub chance_one : Leaf → ℚ
 chance_one l = l.chance *ℚ l.one
 
+-- chance times the payoff of player 1
 abbrev pub chance_two : Leaf → ℚ
 chance_two l = l.chance *ℚ l.two
 

@@ -4,7 +4,7 @@ use Rattle.std.specs.List.{enumerate_from}
 use Rattle.answers.specs.Answers.{Answer, refused_by}
 use Rattle.rational.specs.Rational.{ℚ, ◌*ℚ◌}
 use Rattle.frac128.specs.FirstUnfit.{all_fit, all_steps_fit}
-use Rattle.frac128.specs.Steps.{unfit, Step}
+use Rattle.frac128.specs.Steps.{step_of, Step}
 use Rattle.frac128.specs.declared.steps.Op.TheVariants.{Add, Mul}
 use Rattle.sequence_data.specs.declared.types.Leaf.{Leaf}
 use Rattle.sequence_data.specs.declared.types.Cell.{Cell}
@@ -18,12 +18,15 @@ fit_at place steps = refused_by (stops.Range place) (all_steps_fit steps)
 
 -- ---- into the cells
 -- the product of a leaf's chance and a payoff is added to a sum
-abbrev pub product_steps : ℚ → ℚ → ℚ → List Step
-product_steps sum chance payoff = unfit Mul chance payoff ∷ unfit Add sum (chance *ℚ payoff) ∷ []
+abbrev pub added_product_steps : ℚ → ℚ → ℚ → List Step
+added_product_steps sum chance payoff =
+    step_of Mul chance payoff ∷ step_of Add sum (chance *ℚ payoff) ∷ []
 
 -- a leaf goes into its cell: its chance, and its chance times each payoff, are added to the cell's sums so far
 abbrev pub added_steps : Cell → Leaf → List Step
-added_steps c l = unfit Add c.weight l.chance ∷ product_steps c.one l.chance l.one ++ product_steps c.two l.chance l.two
+added_steps c l =
+    step_of Add c.weight l.chance
+    ∷ added_product_steps c.one l.chance l.one ++ added_product_steps c.two l.chance l.two
 
 -- a numbered leaf goes into its cell, where the leaves before it are
 abbrev pub leaf_steps : List Leaf → (ℕ × Leaf) → List Step

@@ -2,9 +2,9 @@
 ghost use Rattle.std.specs.Prelude.{◌≡◌, [], ◌∷◌, IfOk};
 ghost use Rattle.answers.specs.Answers.{map_ok};
 ghost use Rattle.rational.specs.Rational.{◌+ℚ◌, ◌*ℚ◌};
-ghost use Rattle.frac128.specs.Steps.{unfit};
+ghost use Rattle.frac128.specs.Steps.{step_of};
 ghost use Rattle.frac128.specs.declared.steps.Op.TheVariants.{Add, Mul};
-ghost use Rattle.sequence_data.specs.Steps.{fit_at, product_steps};
+ghost use Rattle.sequence_data.specs.Steps.{added_product_steps, fit_at};
 
 use crate::stop::SeqStop;
 use frac128::Frac;
@@ -16,7 +16,7 @@ use frac128::Frac;
 /// `Range` exactly where it does not fit.
 pub fn sum(place: u32, left: Frac, right: Frac) -> Result<Frac, SeqStop>
     ensures value { IfOk result (λ v. v ≡ left +ℚ right) }
-    ensures steps { fit_at place (unfit Add left right ∷ []) (map_ok result (λ _. tt)) }
+    ensures steps { fit_at place (step_of Add left right ∷ []) (map_ok result (λ _. tt)) }
 {
     match left.add(right) {
         Ok(value) => Ok(value),
@@ -31,7 +31,7 @@ pub fn sum(place: u32, left: Frac, right: Frac) -> Result<Frac, SeqStop>
 /// `Range` exactly where it does not fit.
 pub fn product(place: u32, left: Frac, right: Frac) -> Result<Frac, SeqStop>
     ensures value { IfOk result (λ v. v ≡ left *ℚ right) }
-    ensures steps { fit_at place (unfit Mul left right ∷ []) (map_ok result (λ _. tt)) }
+    ensures steps { fit_at place (step_of Mul left right ∷ []) (map_ok result (λ _. tt)) }
 {
     match left.mul(right) {
         Ok(value) => Ok(value),
@@ -47,7 +47,8 @@ pub(crate) fn with_product(
     payoff: Frac,
 ) -> Result<Frac, SeqStop>
     ensures value { IfOk result (λ v. v ≡ before +ℚ (chance *ℚ payoff)) }
-    ensures steps { fit_at place (product_steps before chance payoff) (map_ok result (λ _. tt)) }
+    ensures steps { fit_at place (added_product_steps before chance payoff)
+        (map_ok result (λ _. tt)) }
 {
     let part = product(place, chance, payoff)?;
     sum(place, before, part)

@@ -21,7 +21,7 @@ use Rattle.perfect_recall.specs.Found.{IsRecallOf, edge_before}
 use Rattle.perfect_recall.proofs.HistoryLemmas.{HasHistory, has_history, edge-none, edge-some}
 use Rattle.sequence_data.specs.Data.{SideData}
 use Rattle.sequence_data.specs.declared.types.SetRow.{SetRow}
-use Rattle.sequence_form.specs.Sequences.{next_sequence, own_actions, AreFirsts, own_set_row, tree_side}
+use Rattle.sequence_form.specs.Sequences.{next_sequence, sequence_count_of, AreFirsts, own_set_row, tree_side}
 
 module _ (t : Tree) (i : ℕ) where
   -- ---- the place of an own set
@@ -36,7 +36,7 @@ module _ (t : Tree) (i : ℕ) where
 
   -- ---- the next sequence
   -- with one more set
-  pub next-more : (n : ℕ) → n < t.sets → next_sequence t i (suc n) ≡ next_sequence t i n + own_actions t i n
+  pub next-more : (n : ℕ) → n < t.sets → next_sequence t i (suc n) ≡ next_sequence t i n + sequence_count_of t i n
   next-more n below = ap (λ xs. first (side_of t i) (length xs)) (numbers_with-next t.owner i n) ∙ go (is_own t i n) (is_own-decides t i n)
     where
       go : (b : Bool) → Decides b (t.owner n ≡ Some i) → first (side_of t i) (length (numbers_with t.owner i n ++ (if b then n ∷ [] else []))) ≡ next_sequence t i n + (if b then t.actions n else 0)
@@ -62,7 +62,7 @@ module _ (t : Tree) (i : ℕ) where
 
   -- ---- the step before an own set
   pub own-step : (s r a : ℕ) → is_game_tree t → last_edge (history_before t i s) ≡ Some (r, a) → (r < t.sets) × (t.owner r ≡ Some i)
-  own-step s r a w h = elim (history_before-cases t i s t.size) [
+  own-step s r a w h = elim (history_before-cases t i s) [
     | inl found ↦ go found.0 found.1 (has_history t i found.0 w found.1) (sym (ap last_edge found.3) ∙ h)
     | inr none ↦ absurd (none-some (r, a) (sym (ap last_edge none.0) ∙ h))
   ]
@@ -81,7 +81,7 @@ module _ (t : Tree) (i : ℕ) where
   recall-at before s h below own = ap (λ xs. get_or xs s None) h.before_is ∙ get_or-map-range_with_len (λ r. edge_before t r (t.owner r)) 0 t.sets s s None below (omega arith) ∙ ap (edge_before t s) own
 
   -- ---- with one more set
-  pub next-push : (n : ℕ) → n < t.sets → next_sequence t i (n + 1) ≡ next_sequence t i n + own_actions t i n
+  pub next-push : (n : ℕ) → n < t.sets → next_sequence t i (n + 1) ≡ next_sequence t i n + sequence_count_of t i n
   next-push n below = let one : n + 1 ≡ suc n = omega arith in ap (next_sequence t i) one ∙ next-more n below
 
   -- the own sets with one more
@@ -104,7 +104,7 @@ module _ (t : Tree) (i : ℕ) where
   count-other n other = ap length (other-next n other)
 
 -- ---- they fit 32 bits
-pub actions-few : (t : GameTree) (i s : ℕ) → IsGameTree t → s < length t.sets → own_actions (game_of_tree t) i s < 65536
+pub actions-few : (t : GameTree) (i s : ℕ) → IsGameTree t → s < length t.sets → sequence_count_of (game_of_tree t) i s < 65536
 actions-few t i s valid below = go (is_own (game_of_tree t) i s) (actions-below t s valid below)
   where
     go : (b : Bool) → (game_of_tree t).actions s < length t.nodes → (if b then (game_of_tree t).actions s else 0) < 65536

@@ -9,7 +9,7 @@ use Rattle.std.proofs.lemmas.Option.{none-some, same_Some}
 use Rattle.lists.proofs.ElementLemmas.{range-last}
 use Rattle.rational.specs.Rational.{ℚ, ◌+ℚ◌}
 use Rattle.frac128.specs.FirstUnfit.{StepsFit}
-use Rattle.frac128.specs.Steps.{unfit, Step, StepFits, IsFirstUnfit}
+use Rattle.frac128.specs.Steps.{step_of, Step, StepFits, IsFirstUnfit}
 use Rattle.frac128.specs.declared.steps.Op.TheVariants.{Add, Mul}
 use Rattle.frac128.proofs.FirstUnfitLemmas.{fits_next, first_unfit_here}
 use Rattle.game_theory.specs.Trees.{Tree, IsTree}
@@ -44,13 +44,13 @@ module _ (t : Tree) (k : ℕ) where
   two-answer answer fit one h = fit_at-following k firsts (payoff_step t k 0 ∷ payoff_step t k 1 ∷ []) answer fit (fit_at-following k (payoff_step t k 0 ∷ []) (payoff_step t k 1 ∷ []) answer one h)
 
 -- the step of chance by the numbers of which it is made
-pub chance-is : (t : Tree) (k s : ℕ) (a b : ℚ) → t.set (t.parent k) ≡ Some s → t.owner s ≡ None → a ≡ chance_of_path t (t.parent k) → b ≡ t.chance s (t.branch k) → (unfit Mul a b ∷ []) ≡ chance_steps t k (t.set (t.parent k))
+pub chance-is : (t : Tree) (k s : ℕ) (a b : ℚ) → t.set (t.parent k) ≡ Some s → t.owner s ≡ None → a ≡ chance_of_path t (t.parent k) → b ≡ t.chance s (t.branch k) → (step_of Mul a b ∷ []) ≡ chance_steps t k (t.set (t.parent k))
 chance-is t k s a b at none left right =
-    ap₂ (λ u v. unfit Mul u v ∷ []) left right ∙ ap (chance_step t k s) (sym none) ∙ ap (chance_steps t k) (sym at)
+    ap₂ (λ u v. step_of Mul u v ∷ []) left right ∙ ap (chance_step t k s) (sym none) ∙ ap (chance_steps t k) (sym at)
 
 -- a step by the numbers of which it is made
-pub step-is : (t : Tree) (k i : ℕ) (a b : ℚ) → a ≡ payoff_of_path t i (t.parent k) → b ≡ t.pays k i → (unfit Add a b ∷ []) ≡ (payoff_step t k i ∷ [])
-step-is t k i a b left right = ap₂ (λ u v. unfit Add u v ∷ []) left right
+pub step-is : (t : Tree) (k i : ℕ) (a b : ℚ) → a ≡ payoff_of_path t i (t.parent k) → b ≡ t.pays k i → (step_of Add a b ∷ []) ≡ (payoff_step t k i ∷ [])
+step-is t k i a b left right = ap₂ (λ u v. step_of Add u v ∷ []) left right
 
 -- the sum of that step
 pub payoff-is : (t : Tree) (k i : ℕ) (a b v : ℚ) → IsTree t → 0 < k → k < t.size → a ≡ payoff_of_path t i (t.parent k) → b ≡ t.pays k i → v ≡ a +ℚ b → v ≡ payoff_of_path t i k

@@ -16,7 +16,7 @@ use Rattle.sequence_data.specs.declared.types.Leaf.{Leaf}
 use Rattle.sequence_form.specs.Paths.{tree_leaves, paths_in}
 use Rattle.sequence_form.specs.Sequences.{tree_side, start_side}
 
--- nothing, but of two players
+-- refuses any number of players but two
 abbrev pub of_two_players : ℕ → Answer SeqStop (Unit {0})
 of_two_players n = refuse_where (n ≢ 2) (stops.NotTwoPlayers n)
 

@@ -19,6 +19,7 @@ pub record StandsForTree (t : Tree) (f : FormData) : Type 0 where
   pub lists : AreListsOf t (lists_of f)
   pub alike : FormsAlike (form f) (form_of t)
 
+-- the form of a tree stands for it
 abbrev pub TreeFormsStandForTrees : Type 0
 TreeFormsStandForTrees = (t : Tree) (f : FormData) → IsTreeForm t f → StandsForTree t f
 
@@ -27,22 +28,27 @@ pub record PlansPayOnTree (t : Tree) (f : FormData) : Type 0 where
   pub pays : (x y : ℕ → ℚ) (i : ℕ) → i < 2 → IsRealisationPlan (form f).rows x → IsRealisationPlan (form f).columns y → payoff t (behaviour_of t (of_two x y)) i ≡ cell_sum (form f) ((form f).pays i) x y
   pub weigh_one : WeighsOne (form f)
 
+-- the form of a tree of two players who recall pays plans as the tree does
 abbrev pub TreeFormsPayPlans : Type 0
 TreeFormsPayPlans = (t : Tree) (f : FormData) → HasTwoWhoRecall t → IsTreeForm t f → PlansPayOnTree t f
 
 -- ---- tables
--- how many strategies the players have
+-- how many strategies player 0 has
 abbrev pub count_of_rows : GameTable → ℕ
 count_of_rows t = slice_index (strategy_counts t) 0
 
+-- how many strategies player 1 has
 abbrev pub count_of_columns : GameTable → ℕ
 count_of_columns t = slice_index (strategy_counts t) 1
 
+-- the table has two players, the lists of a form are those of the table, and it is the table's
+-- sequence form within its bounds
 pub record StandsForTable (t : GameTable) (f : FormData) : Type 0 where
   pub strategies_are : (game_of t).strategies ≡ count_of_rows t ∷ count_of_columns t ∷ []
   pub lists : AreListsOfTable (game_of t) (count_of_rows t) (count_of_columns t) (lists_of f)
   pub alike : FormsAlike (form f) (form_of_table (game_of t) (count_of_rows t) (count_of_columns t))
 
+-- the form of a table stands for it
 abbrev pub TableFormsStandForTables : Type 0
 TableFormsStandForTables = (t : GameTable) (f : FormData) → IsTable t → table_form t (Ok f) → StandsForTable t f
 
@@ -51,5 +57,6 @@ pub record PlansPayOnTable (t : GameTable) (f : FormData) : Type 0 where
   pub pays : (x y : ℕ → ℚ) (i : ℕ) → i < 2 → table_payoff (game_of t) (mixed_of_plans (of_two x y)) i ≡ cell_sum (form f) ((form f).pays i) x y
   pub weigh_one : WeighsOne (form f)
 
+-- the form of a table pays plans as the table does
 abbrev pub TableFormsPayPlans : Type 0
 TableFormsPayPlans = (t : GameTable) (f : FormData) → IsTable t → table_form t (Ok f) → PlansPayOnTable t f

@@ -3,7 +3,7 @@ use Rattle.std.specs.Prelude.{ℕ, zero, suc, List, [], ◌∷◌, ◌++◌, map
 use Rattle.std.specs.List.{range_with_len}
 use Rattle.answers.specs.Answers.{Answer, refused_by}
 use Rattle.frac128.specs.FirstUnfit.{all_fit}
-use Rattle.frac128.specs.Steps.{unfit, Step}
+use Rattle.frac128.specs.Steps.{step_of, Step}
 use Rattle.frac128.specs.declared.steps.Op.TheVariants.{Add, Mul}
 use Rattle.game_theory.specs.Trees.{Tree}
 use Rattle.sequence_forms.specs.Forms.{chance_of_path, payoff_of_path, row, column}
@@ -23,16 +23,17 @@ tree_leaves t = map (leaf_at t) (leaves t)
 -- ---- steps
 -- the chance of a node after set s with this owner: the parent's times the probability, where chance plays there
 abbrev pub chance_step : Tree → ℕ → ℕ → Option ℕ → List Step
-chance_step t k s None = unfit Mul (chance_of_path t (t.parent k)) (t.chance s (t.branch k)) ∷ []
+chance_step t k s None = step_of Mul (chance_of_path t (t.parent k)) (t.chance s (t.branch k)) ∷ []
 chance_step t k s (Some i) = []
 
+-- the same after a node with this set or with none
 abbrev pub chance_steps : Tree → ℕ → Option ℕ → List Step
 chance_steps t k None = []
 chance_steps t k (Some s) = chance_step t k s (t.owner s)
 
 -- what the outcome of a node pays player i is added to what the path to its parent pays
 abbrev pub payoff_step : Tree → ℕ → ℕ → Step
-payoff_step t k i = unfit Add (payoff_of_path t i (t.parent k)) (t.pays k i)
+payoff_step t k i = step_of Add (payoff_of_path t i (t.parent k)) (t.pays k i)
 
 -- the steps at a node after the root
 abbrev pub child_steps : Tree → ℕ → List Step

@@ -14,9 +14,9 @@ use Rattle.sequence_data.specs.declared.types.SetRow.{SetRow}
 abbrev pub next_sequence : Tree → ℕ → ℕ → ℕ
 next_sequence t i n = first (side_of t i) (length (numbers_with t.owner i n))
 
--- so many sequences set s gives player i
-abbrev pub own_actions : Tree → ℕ → ℕ → ℕ
-own_actions t i s = if is_own t i s then t.actions s else 0
+-- how many sequences of player i end at set s
+abbrev pub sequence_count_of : Tree → ℕ → ℕ → ℕ
+sequence_count_of t i s = if is_own t i s then t.actions s else 0
 
 -- for each set, and after the last one, the sequence that comes next
 abbrev pub AreFirsts : Tree → ℕ → List ℕ → Type 0

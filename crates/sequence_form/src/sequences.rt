@@ -3,7 +3,7 @@ ghost use Rattle.std.specs.Prelude.{◌≡◌, ◌<◌, Some, length, IfOk};
 ghost use Rattle.game_core.specs.TreeGame.{game_of_tree};
 ghost use Rattle.perfect_recall.specs.Found.{IsRecallOf};
 ghost use Rattle.sequence_forms.specs.Sequences.{sequence_before};
-ghost use Rattle.sequence_form.specs.Sequences.{AreFirsts, own_actions, own_set_row, tree_side};
+ghost use Rattle.sequence_form.specs.Sequences.{AreFirsts, own_set_row, sequence_count_of, tree_side};
 
 use answers::Memory;
 use game_core::Tree;
@@ -15,7 +15,7 @@ use std::alloc::Global;
 // How many sequences a set gives a player: one for each action where the player owns it, and else none.
 pub(crate) fn own_actions(tree: &Tree, set: usize, player: u32) -> u32
     requires { set < length tree.now.sets }
-    ensures value { result ≡ own_actions (game_of_tree tree.now) player set }
+    ensures value { result ≡ sequence_count_of (game_of_tree tree.now) player set }
     ensures few { result < 65536 }
 {
     stands_for_game_tree(tree);

@@ -18,7 +18,7 @@ use Rattle.game_theory.specs.Behaviour.{Behaviour, IsValid, IsChoice, is_own, re
 use Rattle.game_theory.specs.Recall.{own_history, HasPerfectRecall}
 use Rattle.game_theory.proofs.PathLemmas.{along_paths}
 use Rattle.sequence_forms.specs.Sides.{first, IsRealisationPlan}
-use Rattle.sequence_forms.specs.Sequences.{last_edge, place_in, action_count, sequence, last_sequence, history_before, sequence_before, side_of}
+use Rattle.sequence_forms.specs.Sequences.{last_edge, place_in, own_action_count, sequence, last_sequence, history_before, sequence_before, side_of}
 use Rattle.sequence_forms.specs.PlanBehaviour.{agreement, edges_at, edges_of, chosen_plan}
 use Rattle.sequence_forms.proofs.SideLemmas.{place-empty, place-set}
 use Rattle.sequence_forms.proofs.SequenceLemmas.{place-own, own_set-is, last-own, last-other, history-own, history-other, history_before-cases, history_before-is}
@@ -40,13 +40,13 @@ agreement-not_negative choice (x ∷ history) =
 -- ---- the weights of the plan
 -- the empty sequence has weight 1
 pub chosen-empty : (t : Tree) (i : ℕ) (choice : ℕ → ℕ) → chosen_plan t i choice 0 ≡ one_ℚ
-chosen-empty t i choice = ap (λ n. agreement choice (edges_at t i 0 n)) (place-empty (action_count t i) (length (own_sets t i)))
+chosen-empty t i choice = ap (λ n. agreement choice (edges_at t i 0 n)) (place-empty (own_action_count t i) (length (own_sets t i)))
 
 -- an action of the j-th own set
 chosen-set : (t : Tree) (i : ℕ) (choice : ℕ → ℕ) (j s a : ℕ) → j < length (own_sets t i) → slice_index (own_sets t i) j ≡ s → a < t.actions s
     → chosen_plan t i choice (first (side_of t i) j + a) ≡ agreement choice (history_before t i s) *ℚ sure (choice s) a
 chosen-set t i choice j s a h e m =
-    ap (λ n. agreement choice (edges_at t i (first (side_of t i) j + a) n)) (place-set (action_count t i) (length (own_sets t i)) j a h (subst (λ x. a < t.actions x) (sym e) m))
+    ap (λ n. agreement choice (edges_at t i (first (side_of t i) j + a) n)) (place-set (own_action_count t i) (length (own_sets t i)) j a h (subst (λ x. a < t.actions x) (sym e) m))
     ∙ ap₂ (λ r b. agreement choice (history_before t i r ++ (r, b) ∷ [])) e (omega arith) ∙ agreement-step choice (history_before t i s) s a
 
 -- an action of an own set
@@ -77,7 +77,7 @@ chosen-last t i choice w r k l = along_paths t (λ x. chosen_plan t i choice (la
 
 -- the sequence before a set
 chosen-before : (t : Tree) (i : ℕ) (choice : ℕ → ℕ) (s : ℕ) → IsTree t → HasPerfectRecall t i → chosen_plan t i choice (sequence_before t i s) ≡ agreement choice (history_before t i s)
-chosen-before t i choice s w r = elim (history_before-cases t i s t.size) [
+chosen-before t i choice s w r = elim (history_before-cases t i s) [
   | inl o ↦ ap (λ h. chosen_plan t i choice (sequence t i (last_edge h))) o.3 ∙ chosen-last t i choice w r o.0 o.1 ∙ ap (agreement choice) (sym o.3)
   | inr o ↦ ap (λ h. chosen_plan t i choice (sequence t i (last_edge h))) o.0 ∙ chosen-empty t i choice ∙ ap (agreement choice) (sym o.0)
 ]
@@ -87,7 +87,7 @@ pub chosen_is_plan : (t : Tree) (i : ℕ) (choice : ℕ → ℕ) → IsTree t �
 chosen_is_plan t i choice w r c =
     record { not_negative = λ q l. agreement-not_negative choice (edges_of t i q); empty_is_one = chosen-empty t i choice; splits = splits }
   where
-    splits : (j : ℕ) → j < length (own_sets t i) → sum_to (action_count t i j) (λ a. chosen_plan t i choice (first (side_of t i) j + a)) ≡ chosen_plan t i choice (sequence_before t i (slice_index (own_sets t i) j))
+    splits : (j : ℕ) → j < length (own_sets t i) → sum_to (own_action_count t i j) (λ a. chosen_plan t i choice (first (side_of t i) j + a)) ≡ chosen_plan t i choice (sequence_before t i (slice_index (own_sets t i) j))
     splits j h =
         let s : ℕ = slice_index (own_sets t i) j in
         let own = own_set-is t i j h in

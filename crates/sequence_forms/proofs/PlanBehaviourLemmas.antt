@@ -8,7 +8,7 @@ use Rattle.game_theory.specs.Trees.{Tree, IsTree}
 use Rattle.game_theory.specs.Behaviour.{IsValid}
 use Rattle.game_theory.specs.Recall.{HasPerfectRecall}
 use Rattle.sequence_forms.specs.Sides.{first, IsRealisationPlan}
-use Rattle.sequence_forms.specs.Sequences.{last_edge, place_in, action_count, sequence, last_sequence, sequence_before, side_of}
+use Rattle.sequence_forms.specs.Sequences.{last_edge, place_in, own_action_count, sequence, last_sequence, sequence_before, side_of}
 use Rattle.sequence_forms.specs.PlanBehaviour.{share, share_of, behaviour_of}
 use Rattle.sequence_forms.proofs.SequenceLemmas.{place-own, sequence-below, history_before-is}
 use Rattle.sequence_forms.proofs.ShareLemmas.{share-times, share_sum, share-not_negative}
@@ -19,7 +19,7 @@ pub splits_at : (t : Tree) (i s : ℕ) (x : ℕ → ℚ) → IsRealisationPlan (
 splits_at t i s x p l e =
     let o = place-own t i s l e in
     let j : ℕ = place_in (own_sets t i) s in
-    let count : action_count t i j ≡ t.actions s = ap t.actions o.1 in
+    let count : own_action_count t i j ≡ t.actions s = ap t.actions o.1 in
     ap (λ n. sum_to n (λ a. x (first (side_of t i) j + a))) (sym count) ∙ p.splits j o.0 ∙ ap (λ r. x (sequence_before t i r)) o.1
 
 -- the weights after its actions are not negative

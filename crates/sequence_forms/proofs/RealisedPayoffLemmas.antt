@@ -10,7 +10,7 @@ use Rattle.game_theory.specs.Behaviour.{Behaviour, IsValid, of_owner, at_set, ac
 use Rattle.sequence_forms.specs.Sequences.{sequence, last_sequence}
 use Rattle.sequence_forms.specs.Forms.{over_leaves, chance_of_path, payoff_of_path, row, column}
 use Rattle.sequence_forms.proofs.NodeSumLemmas.{IsReaching, AddsUp, Flows, payoff_of_nodes, leaves_of_nodes, leaves_weigh, reaching_flows}
-use Rattle.sequence_forms.proofs.PathLemmas.{on_path-step}
+use Rattle.game_theory.proofs.PathLemmas.{on_path-step}
 use Rattle.sequence_forms.proofs.SequenceLemmas.{last-own, last-other}
 
 -- Weights of player i's sequences that realise behaviour: 1 for the empty sequence, and after a node's own action the weight of the

@@ -1,23 +1,34 @@
 -- The last own sequences along the paths of a tree.
-use Rattle.std.proofs.Common.{ℕ, zero, suc, ◌<◌, ◌≡◌, ◌≢◌, ◌⊎◌, inl, inr, Bool, true, false, Decides, Some, List, [], ◌∷◌, ◌++◌, length, refl, sym, ap, ◌∙◌, subst, arith}
-use Rattle.std.specs.Prelude.{◌==◌, if◌then◌else◌, slice_index}
-use Rattle.std.proofs.lemmas.Bool.{cases_lt}
+use Rattle.std.proofs.Common.{ℕ, suc, ◌+◌, ◌<◌, ◌≡◌, ◌≢◌, ◌⊎◌, inl, inr, Bool, true, false, Decides, Option, Some, None, List, [], ◌∷◌, ◌++◌, length, refl, sym, ap, ◌∙◌, subst, arith}
+use Rattle.std.specs.Prelude.{◌==◌, if◌then◌else◌, slice_index, cond, not}
+use Rattle.std.specs.List.{last_or}
 use Rattle.std.proofs.lemmas.Bool.Decides.{Decides-eqb, not_from_Decides}
 use Rattle.game_theory.specs.OwnSets.{own_sets}
 use Rattle.game_theory.proofs.OwnSetLemmas.{is_index-decides, is_own-decides, IsAmong, among_at, own_sets-has, own_sets-tell}
 use Rattle.game_theory.specs.Trees.{Tree, IsTree}
 use Rattle.game_theory.specs.Behaviour.{is_index, is_own}
 use Rattle.game_theory.specs.Recall.{own_edge, own_history, HasPerfectRecall}
+use Rattle.game_theory.specs.Children.{last_below}
+use Rattle.game_theory.proofs.NamedChildLemmas.{last_below-cases}
 use Rattle.game_theory.proofs.PathLemmas.{along_paths, own_history-step}
 use Rattle.sequence_forms.specs.Sides.{sequences, IsSide}
-use Rattle.sequence_forms.specs.Sequences.{last_from, last_edge, place_in, action_count, sequence, last_sequence, history_before_to, history_before, sequence_before, side_of}
+use Rattle.sequence_forms.specs.Sequences.{last_edge, place_in, own_action_count, sequence, last_sequence, history_before, sequence_before, side_of}
 use Rattle.sequence_forms.proofs.SideLemmas.{first_pos, sequence_below}
 
 -- ---- places of sets
+-- the place of a set in a list, from that in the rest of the list
+pub place_in-next : (set : ℕ) (sets : List ℕ) (s : ℕ) → place_in (set ∷ sets) s ≡ (if set == s then 0 else suc (place_in sets s))
+place_in-next set sets s = go (set == s) (place_in sets s)
+  where
+    go : (b : Bool) (p : ℕ) → cond (not b) (1 + p) 0 ≡ (if b then 0 else suc p)
+    go true p = refl
+    go false p = omega arith
+
 -- a set that is in a list stands at its place
 pub place_in-is : (sets : List ℕ) (s : ℕ) → IsAmong sets s → (place_in sets s < length sets) × (slice_index sets (place_in sets s) ≡ s)
 place_in-is [] s h = absurd h
-place_in-is (set ∷ sets) s h = go (set == s) (Decides-eqb set s) h (place_in-is sets s)
+place_in-is (set ∷ sets) s h =
+    subst (λ p. (p < suc (length sets)) × (slice_index (set ∷ sets) p ≡ s)) (sym (place_in-next set sets s)) (go (set == s) (Decides-eqb set s) h (place_in-is sets s))
   where
     go : (b : Bool) → Decides b (set ≡ s) → (set ≡ s) ⊎ IsAmong sets s → (IsAmong sets s → (place_in sets s < length sets) × (slice_index sets (place_in sets s) ≡ s))
         → ((if b then 0 else suc (place_in sets s)) < suc (length sets)) × (slice_index (set ∷ sets) (if b then 0 else suc (place_in sets s)) ≡ s)
@@ -35,13 +46,12 @@ own_set-is t i j h = own_sets-tell t i (slice_index (own_sets t i) j) (among_at 
 
 -- ---- last edges
 -- the last edge of a history with one more step
-last_from-append : (step next : ℕ × ℕ) (history : List (ℕ × ℕ)) → last_from step (history ++ next ∷ []) ≡ next
-last_from-append step next [] = refl
-last_from-append step next (x ∷ history) = last_from-append x next history
+last_or-append : (o : Option (ℕ × ℕ)) (next : ℕ × ℕ) (history : List (ℕ × ℕ)) → last_or o (history ++ next ∷ []) ≡ Some next
+last_or-append o next [] = refl
+last_or-append o next (x ∷ history) = last_or-append (Some x) next history
 
 pub last_edge-append : (next : ℕ × ℕ) (history : List (ℕ × ℕ)) → last_edge (history ++ next ∷ []) ≡ Some next
-last_edge-append next [] = refl
-last_edge-append next (x ∷ history) = ap Some (last_from-append x next history)
+last_edge-append next history = last_or-append None next history
 
 -- the step at an own set, and at another one
 own_edge-own : (t : Tree) (i s a : ℕ) → t.owner s ≡ Some i → own_edge t i (Some s) a ≡ (s, a) ∷ []
@@ -88,7 +98,7 @@ sequence-below t i s a l e m =
 
 -- so is the last sequence of each node
 pub last-below : (t : Tree) (i : ℕ) → IsTree t → (k : ℕ) → k < t.size → last_sequence t i k < sequences (side_of t i)
-last-below t i w k l = along_paths t (λ x. last_sequence t i x < sequences (side_of t i)) w (first_pos (action_count t i) (length (own_sets t i))) next k l
+last-below t i w k l = along_paths t (λ x. last_sequence t i x < sequences (side_of t i)) w (first_pos (own_action_count t i) (length (own_sets t i))) next k l
   where
     next : (c : ℕ) → 0 < c → c < t.size → last_sequence t i (t.parent c) < sequences (side_of t i) → last_sequence t i c < sequences (side_of t i)
     next c p m before =
@@ -102,19 +112,17 @@ last-below t i w k l = along_paths t (λ x. last_sequence t i x < sequences (sid
 
 -- ---- the sequence before a set
 -- the history before a set is that of one of its nodes, or there is none
-pub history_before-cases : (t : Tree) (i s n : ℕ) → ((k : ℕ) × (k < n) × (t.set k ≡ Some s) × (history_before_to t i s n ≡ own_history t i k)) ⊎ ((history_before_to t i s n ≡ []) × ((k : ℕ) → k < n → t.set k ≢ Some s))
-history_before-cases t i s zero = inr (refl, λ k h. absurd (omega arith))
-history_before-cases t i s (suc n) = go (is_index (t.set n) s) (is_index-decides (t.set n) s) (history_before-cases t i s n)
-  where
-    go : (b : Bool) → Decides b (t.set n ≡ Some s) → ((k : ℕ) × (k < n) × (t.set k ≡ Some s) × (history_before_to t i s n ≡ own_history t i k)) ⊎ ((history_before_to t i s n ≡ []) × ((k : ℕ) → k < n → t.set k ≢ Some s))
-        → ((k : ℕ) × (k < suc n) × (t.set k ≡ Some s) × ((if b then own_history t i n else history_before_to t i s n) ≡ own_history t i k)) ⊎ (((if b then own_history t i n else history_before_to t i s n) ≡ []) × ((k : ℕ) → k < suc n → t.set k ≢ Some s))
-    go true d h = inl (n, omega arith, d.0 refl, refl)
-    go false d (inl o) = inl (o.0, omega (arith, o.1), o.2, o.3)
-    go false d (inr o) = inr (o.0, λ k l e. elim (cases_lt k n) [ inl m ↦ o.1 k m e | inr m ↦ (let same : k ≡ n = omega arith in not_from_Decides false d refl (subst (λ x. t.set x ≡ Some s) same e)) ])
+pub history_before-cases : (t : Tree) (i s : ℕ) → ((k : ℕ) × (k < t.size) × (t.set k ≡ Some s) × (history_before t i s ≡ own_history t i k)) ⊎ ((history_before t i s ≡ []) × ((k : ℕ) → k < t.size → t.set k ≢ Some s))
+history_before-cases t i s =
+    let last = last_below t.size (λ k. is_index (t.set k) s) in
+    elim (last_below-cases t.size (λ k. is_index (t.set k) s)) [
+      | inl o ↦ inl (last, o.0, (is_index-decides (t.set last) s).0 o.1, refl)
+      | inr o ↦ inr (ap (own_history t i) o.0, λ k l. not_from_Decides (is_index (t.set k) s) (is_index-decides (t.set k) s) (o.1 k l))
+    ]
 
 -- under perfect recall it is that of each of its nodes
 pub history_before-is : (t : Tree) (i s k : ℕ) → HasPerfectRecall t i → t.owner s ≡ Some i → k < t.size → t.set k ≡ Some s → history_before t i s ≡ own_history t i k
-history_before-is t i s k r o l e = elim (history_before-cases t i s t.size) [
+history_before-is t i s k r o l e = elim (history_before-cases t i s) [
   | inl h ↦ h.3 ∙ r s o h.0 k h.1 l h.2 e
   | inr h ↦ absurd (h.1 k l e)
 ]
@@ -124,7 +132,7 @@ pub side_of-is : (t : Tree) (i : ℕ) → IsTree t → IsSide (side_of t i)
 side_of-is t i w j h = go (slice_index (own_sets t i) j)
   where
     go : (s : ℕ) → sequence_before t i s < sequences (side_of t i)
-    go s = elim (history_before-cases t i s t.size) [
+    go s = elim (history_before-cases t i s) [
       | inl o ↦ subst (λ x. sequence t i (last_edge x) < sequences (side_of t i)) (sym o.3) (last-below t i w o.0 o.1)
-      | inr o ↦ subst (λ x. sequence t i (last_edge x) < sequences (side_of t i)) (sym o.0) (first_pos (action_count t i) (length (own_sets t i)))
+      | inr o ↦ subst (λ x. sequence t i (last_edge x) < sequences (side_of t i)) (sym o.0) (first_pos (own_action_count t i) (length (own_sets t i)))
     ]

@@ -1,5 +1,5 @@
 -- Where sets are numbered by their first nodes, the sequence before a set comes before the set's own.
-use Rattle.std.proofs.Common.{ℕ, zero, suc, ◌<◌, ◌≤◌, ◌≡◌, ◌⊎◌, inl, inr, Bool, true, false, Decides, Some, List, [], ◌∷◌, length, refl, sym, ap, ◌∙◌, subst, arith, tests}
+use Rattle.std.proofs.Common.{ℕ, zero, suc, ◌<◌, ◌≤◌, ◌≡◌, ◌⊎◌, inl, inr, Bool, true, false, Decides, Some, List, [], ◌∷◌, length, refl, sym, ap, ◌∙◌, subst, subst₂, arith, tests}
 use Rattle.std.specs.Prelude.{◌==◌, if◌then◌else◌, slice_index}
 use Rattle.std.proofs.lemmas.Bool.{cases_lt}
 use Rattle.std.proofs.lemmas.Bool.Decides.{Decides-eqb, not_from_Decides}
@@ -11,16 +11,17 @@ use Rattle.game_theory.specs.Behaviour.{is_own}
 use Rattle.game_theory.specs.Recall.{HasPerfectRecall}
 use Rattle.game_theory.proofs.PathLemmas.{along_paths}
 use Rattle.sequence_forms.specs.Sides.{first_after, first}
-use Rattle.sequence_forms.specs.Sequences.{last_edge, place_in, action_count, sequence, last_sequence, sequence_before, side_of}
+use Rattle.sequence_forms.specs.Sequences.{last_edge, place_in, own_action_count, sequence, last_sequence, sequence_before, side_of}
 use Rattle.sequence_forms.specs.TreeLaws.{TreesHaveOrderedSides}
 use Rattle.sequence_forms.proofs.SideLemmas.{first_pos, first_up}
-use Rattle.sequence_forms.proofs.SequenceLemmas.{place-own, own_set-is, last-own, last-other, history_before-cases}
+use Rattle.sequence_forms.proofs.SequenceLemmas.{place_in-next, place-own, own_set-is, last-own, last-other, history_before-cases}
 
 -- ---- places
 -- in an ascending list the smaller of two sets has the smaller place
 place-ascends : (n : ℕ) (sets : List ℕ) (r s : ℕ) → AscendFrom n sets → IsAmong sets r → IsAmong sets s → r < s → place_in sets r < place_in sets s
 place-ascends n [] r s o p q l = absurd p
-place-ascends n (set ∷ sets) r s o p q l = go (set == r) (set == s) (Decides-eqb set r) (Decides-eqb set s) (place-ascends (suc set) sets r s o.1) p q
+place-ascends n (set ∷ sets) r s o p q l =
+    subst₂ (λ x y. x < y) (sym (place_in-next set sets r)) (sym (place_in-next set sets s)) (go (set == r) (set == s) (Decides-eqb set r) (Decides-eqb set s) (place-ascends (suc set) sets r s o.1) p q)
   where
     go : (b c : Bool) → Decides b (set ≡ r) → Decides c (set ≡ s) → (IsAmong sets r → IsAmong sets s → r < s → place_in sets r < place_in sets s) → (set ≡ r) ⊎ IsAmong sets r → (set ≡ s) ⊎ IsAmong sets s → (if b then 0 else suc (place_in sets r)) < (if c then 0 else suc (place_in sets s))
     go true true d f rest p q = absurd (omega (arith, d.0 refl, f.0 refl))
@@ -32,12 +33,12 @@ place-ascends n (set ∷ sets) r s o p q l = go (set == r) (set == s) (Decides-e
     go false false d f rest (inr p) (inr q) = omega (arith, rest p q l)
 
 -- the sequences of an earlier own set come before those of a later one
-earlier-sequence : (t : Tree) (i r s a : ℕ) → r < t.sets → t.owner r ≡ Some i → s < t.sets → t.owner s ≡ Some i → a < t.actions r → r < s → sequence t i (Some (r, a)) < first_after (action_count t i) (place_in (own_sets t i) s)
+earlier-sequence : (t : Tree) (i r s a : ℕ) → r < t.sets → t.owner r ≡ Some i → s < t.sets → t.owner s ≡ Some i → a < t.actions r → r < s → sequence t i (Some (r, a)) < first_after (own_action_count t i) (place_in (own_sets t i) s)
 earlier-sequence t i r s a l e m f b h =
     let o = place-own t i r l e in
     let places : place_in (own_sets t i) r < place_in (own_sets t i) s = place-ascends 0 (own_sets t i) r s (own_sets-ascend t i) (own_sets-has t i r l e) (own_sets-has t i s m f) h in
-    let up = first_up (action_count t i) (place_in (own_sets t i) r) (place_in (own_sets t i) s) places in
-    let few : a < action_count t i (place_in (own_sets t i) r) = subst (λ x. a < t.actions x) (sym o.1) b in
+    let up = first_up (own_action_count t i) (place_in (own_sets t i) r) (place_in (own_sets t i) s) places in
+    let few : a < own_action_count t i (place_in (own_sets t i) r) = subst (λ x. a < t.actions x) (sym o.1) b in
     omega arith
 
 -- ---- the last choice
@@ -71,12 +72,12 @@ last_choice t i w k l = along_paths t (λ x. (last_sequence t i x ≡ 0) ⊎ Las
 
 -- ---- the order
 -- a node's last own sequence comes before the sequences of its own set
-last-before : (t : Tree) (i : ℕ) → IsTree t → HasPerfectRecall t i → AreNumberedByFirstNodes t → (n k s : ℕ) → k < n → k < t.size → t.set k ≡ Some s → t.owner s ≡ Some i → last_sequence t i k < first_after (action_count t i) (place_in (own_sets t i) s)
+last-before : (t : Tree) (i : ℕ) → IsTree t → HasPerfectRecall t i → AreNumberedByFirstNodes t → (n k s : ℕ) → k < n → k < t.size → t.set k ≡ Some s → t.owner s ≡ Some i → last_sequence t i k < first_after (own_action_count t i) (place_in (own_sets t i) s)
 last-before t i w r f zero k s h l q e = absurd (omega arith)
 last-before t i w r f (suc n) k s h l q e = elim (last_choice t i w k l) [
-  | inl z ↦ subst (λ x. x < first_after (action_count t i) (place_in (own_sets t i) s)) (sym z) (first_pos (action_count t i) (place_in (own_sets t i) s))
+  | inl z ↦ subst (λ x. x < first_after (own_action_count t i) (place_in (own_sets t i) s)) (sym z) (first_pos (own_action_count t i) (place_in (own_sets t i) s))
   | inr o ↦ elim (cases_lt o.set s) [
-    | inl m ↦ subst (λ x. x < first_after (action_count t i) (place_in (own_sets t i) s)) (sym o.last_is) (earlier-sequence t i o.set s o.action (w.sets_within o.node o.set o.inside o.set_is) o.own (w.sets_within k s l q) e o.is_action m)
+    | inl m ↦ subst (λ x. x < first_after (own_action_count t i) (place_in (own_sets t i) s)) (sym o.last_is) (earlier-sequence t i o.set s o.action (w.sets_within o.node o.set o.inside o.set_is) o.own (w.sets_within k s l q) e o.is_action m)
     | inr m ↦ later (λ j u v z. last-before t i w r f n j s u v z e) o m
   ]
 ]
@@ -91,16 +92,17 @@ last-before t i w r f (suc n) k s h l q e = elim (last_choice t i w k l) [
       | inr p ↦ let same : o.set ≡ s = omega arith in (o.node, o.above, subst (λ x. t.set o.node ≡ Some x) same o.set_is)
     ]
 
-    later : ((j : ℕ) → j < n → j < t.size → t.set j ≡ Some s → last_sequence t i j < first_after (action_count t i) (place_in (own_sets t i) s)) → (o : LastChoice t i k) → s ≤ o.set → last_sequence t i k < first_after (action_count t i) (place_in (own_sets t i) s)
+    later : ((j : ℕ) → j < n → j < t.size → t.set j ≡ Some s → last_sequence t i j < first_after (own_action_count t i) (place_in (own_sets t i) s)) → (o : LastChoice t i k) → s ≤ o.set → last_sequence t i k < first_after (own_action_count t i) (place_in (own_sets t i) s)
     later earlier o m =
         let a = above o m in
-        subst (λ h. sequence t i (last_edge h) < first_after (action_count t i) (place_in (own_sets t i) s)) (r s e a.0 k (omega (arith, a.1)) l a.2 q) (earlier a.0 (omega (arith, a.1)) (omega (arith, a.1)) a.2)
+        subst (λ h. sequence t i (last_edge h) < first_after (own_action_count t i) (place_in (own_sets t i) s)) (r s e a.0 k (omega (arith, a.1)) l a.2 q) (earlier a.0 (omega (arith, a.1)) (omega (arith, a.1)) a.2)
 
 -- the place of the set that stands at a place
 pub place_at : (n : ℕ) (sets : List ℕ) (j : ℕ) → AscendFrom n sets → j < length sets → place_in sets (slice_index sets j) ≡ j
 place_at n [] j o h = absurd (omega arith)
-place_at n (set ∷ sets) zero o h = grind (arith, tests)
-place_at n (set ∷ sets) (suc j) o h = go (set == slice_index sets j) (Decides-eqb set (slice_index sets j)) (place_at (suc set) sets j o.1 (omega arith))
+place_at n (set ∷ sets) zero o h = place_in-next set sets set ∙ grind (arith, tests)
+place_at n (set ∷ sets) (suc j) o h =
+    place_in-next set sets (slice_index sets j) ∙ go (set == slice_index sets j) (Decides-eqb set (slice_index sets j)) (place_at (suc set) sets j o.1 (omega arith))
   where
     go : (b : Bool) → Decides b (set ≡ slice_index sets j) → place_in sets (slice_index sets j) ≡ j → (if b then 0 else suc (place_in sets (slice_index sets j))) ≡ suc j
     go true d e = absurd (omega (arith, d.0 refl, IsAmong-from (suc set) sets (slice_index sets j) o.1 (among_at sets j 0 (omega arith))))
@@ -112,12 +114,12 @@ follows t i w r f j h =
     let s : ℕ = slice_index (own_sets t i) j in
     let own = own_set-is t i j h in
     let place : place_in (own_sets t i) s ≡ j = place_at 0 (own_sets t i) j (own_sets-ascend t i) h in
-    subst (λ n. sequence_before t i s < first_after (action_count t i) n) place (go s own.1)
+    subst (λ n. sequence_before t i s < first_after (own_action_count t i) n) place (go s own.1)
   where
-    go : (s : ℕ) → t.owner s ≡ Some i → sequence_before t i s < first_after (action_count t i) (place_in (own_sets t i) s)
-    go s e = elim (history_before-cases t i s t.size) [
-      | inl o ↦ subst (λ x. sequence t i (last_edge x) < first_after (action_count t i) (place_in (own_sets t i) s)) (sym o.3) (last-before t i w r f (suc o.0) o.0 s (omega arith) o.1 o.2 e)
-      | inr o ↦ subst (λ x. sequence t i (last_edge x) < first_after (action_count t i) (place_in (own_sets t i) s)) (sym o.0) (first_pos (action_count t i) (place_in (own_sets t i) s))
+    go : (s : ℕ) → t.owner s ≡ Some i → sequence_before t i s < first_after (own_action_count t i) (place_in (own_sets t i) s)
+    go s e = elim (history_before-cases t i s) [
+      | inl o ↦ subst (λ x. sequence t i (last_edge x) < first_after (own_action_count t i) (place_in (own_sets t i) s)) (sym o.3) (last-before t i w r f (suc o.0) o.0 s (omega arith) o.1 o.2 e)
+      | inr o ↦ subst (λ x. sequence t i (last_edge x) < first_after (own_action_count t i) (place_in (own_sets t i) s)) (sym o.0) (first_pos (own_action_count t i) (place_in (own_sets t i) s))
     ]
 
 -- a player's sets are in order

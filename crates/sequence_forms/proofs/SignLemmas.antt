@@ -15,7 +15,7 @@ use Rattle.game_theory.specs.Trees.{Tree, IsTree}
 use Rattle.game_theory.specs.Behaviour.{branch_probability}
 use Rattle.game_theory.proofs.PathLemmas.{along_paths}
 use Rattle.sequence_forms.specs.Sides.{first_after}
-use Rattle.sequence_forms.specs.Sequences.{action_count}
+use Rattle.sequence_forms.specs.Sequences.{own_action_count}
 use Rattle.sequence_forms.specs.Forms.{at_leaf, row, column, leaves_at, chance_of_path, payoff_of_path, form_of_table}
 use Rattle.sequence_forms.specs.Prices.{gains, costs}
 use Rattle.sequence_forms.specs.TableLaws.{CellsOfTables}
@@ -35,7 +35,7 @@ last_sequences t i w =
       other = λ c s p l q e. last-other t i c s w p l q e;
       before = λ k s r l q e. before-is t i s k r e l q;
       within = last-below t i w;
-      numbered = λ j a h. ap (λ n. first_after (action_count t i) n + a) (place_at 0 (own_sets t i) j (own_sets-ascend t i) h);
+      numbered = λ j a h. ap (λ n. first_after (own_action_count t i) n + a) (place_at 0 (own_sets t i) j (own_sets-ascend t i) h);
     }
 
 -- chance and the payoffs

@@ -7,7 +7,7 @@ use Rattle.std.proofs.lemmas.List.FromFn.{length-map-range_with_len}
 use Rattle.std.proofs.lemmas.Option.{none-some, slice_get_within, slice_get-get_or, get_or_from_slice_get}
 use Rattle.game_core.specs.declared.tree.Node.{Node}
 use Rattle.game_theory.specs.OwnSets.{own_sets}
-use Rattle.game_core.specs.Tree.{GameTree, IsGameTree, InformationSet, OpenBranch, AreInPrefixOrder, action_count, branches_after, members_of}
+use Rattle.game_core.specs.Tree.{GameTree, IsGameTree, InformationSet, OpenBranch, AreInPrefixOrder, action_count, branches_from, members_of}
 use Rattle.game_core.specs.TreeGame.{game_of_tree}
 use Rattle.game_theory.proofs.IndexLemmas.{numbers_with-length, numbers_with-tell}
 
@@ -16,18 +16,18 @@ places-taken : (sets : List InformationSet) (k : ℕ) (nodes : List Node) (free 
 places-taken sets k [] free h = omega (arith, ap length h)
 places-taken sets k (node ∷ nodes) [] h = absurd h
 places-taken sets k (node ∷ nodes) (place ∷ free) h =
-    let later = places-taken sets (suc k) nodes (branches_after (Some k) 0 (action_count sets node.set) ++ free) h.1 in
-    omega (arith, length-append (branches_after (Some k) 0 (action_count sets node.set)) free)
+    let later = places-taken sets (suc k) nodes (branches_from (Some k) 0 (action_count sets node.set) ++ free) h.1 in
+    omega (arith, length-append (branches_from (Some k) 0 (action_count sets node.set)) free)
 
 -- a node has fewer actions than there are nodes
 actions-few : (sets : List InformationSet) (k p : ℕ) (nodes : List Node) (free : List OpenBranch) → AreInPrefixOrder sets k nodes free [] → p < length nodes → action_count sets (get_or (map (λ node. node.set) nodes) p None) < length nodes
 actions-few sets k p [] free h below = absurd (omega arith)
 actions-few sets k p (node ∷ nodes) [] h below = absurd h
 actions-few sets k zero (node ∷ nodes) (place ∷ free) h below =
-    let taken = places-taken sets (suc k) nodes (branches_after (Some k) 0 (action_count sets node.set) ++ free) h.1 in
-    omega (arith, length-append (branches_after (Some k) 0 (action_count sets node.set)) free, length-map-range_with_len {X = OpenBranch} (λ a. (Some k, a)) 0 (action_count sets node.set))
+    let taken = places-taken sets (suc k) nodes (branches_from (Some k) 0 (action_count sets node.set) ++ free) h.1 in
+    omega (arith, length-append (branches_from (Some k) 0 (action_count sets node.set)) free, length-map-range_with_len {X = OpenBranch} (λ a. (Some k, a)) 0 (action_count sets node.set))
 actions-few sets k (suc p) (node ∷ nodes) (place ∷ free) h below =
-    let few = actions-few sets (suc k) p nodes (branches_after (Some k) 0 (action_count sets node.set) ++ free) h.1 (omega arith) in
+    let few = actions-few sets (suc k) p nodes (branches_from (Some k) 0 (action_count sets node.set) ++ free) h.1 (omega arith) in
     omega arith
 
 -- the number of a set's actions is that of the game

@@ -14,13 +14,12 @@ use Rattle.std.proofs.lemmas.Option.{same_Some, slice_get_within, slice_get-get_
 use Rattle.lists.proofs.ElementLemmas.{range-last}
 use Rattle.strategy_lists.specs.declared.decision.Decision.{Decision}
 use Rattle.strategy_lists.specs.declared.decision.Edge.{Edge}
-use Rattle.strategy_lists.specs.Reduced.{ComesFrom, AreLinked}
+use Rattle.strategy_lists.specs.Reduced.{AreApart, AreLinked, ComesFrom}
 use Rattle.strategy_lists.specs.Ends.{is_led_to, ends}
 use Rattle.strategy_lists.proofs.ReachedDecisionLemmas.{below_or_last, last_entry, one_decision, place-within}
 use Rattle.strategy_lists.proofs.EndListLemmas.{AreRest, AreRest-first, AreRest-later, AreRest-all, branches_or_passes, ends-nil, ends-branch, ends-pass, ends_with, all_ends}
 use Rattle.strategy_lists.proofs.StepLemmas.{drop-first}
 use Rattle.strategy_lists.specs.LeftOut.{is_kept, kept_below, renumbered_edge, renumbered, marked, AreEnough, AreShared}
-use Rattle.strategy_lists.specs.Ways.{AreApart}
 
 -- the kept ones of these decisions, which are numbered from n
 abbrev pub kept_from : List Bool → ℕ → List Decision → List Decision

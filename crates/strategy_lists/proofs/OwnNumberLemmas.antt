@@ -6,14 +6,14 @@ use Rattle.std.proofs.lemmas.Bool.Decides.{Decides-eqb, Decides-like}
 use Rattle.std.proofs.lemmas.Bool.{cases_lt, cases_eq}
 use Rattle.std.proofs.lemmas.List.{length_push, length-map, length-set, get_or-set_same, get_or-set_other, get_or_append_left, get_or_push}
 use Rattle.std.proofs.lemmas.List.Elements.{All-map}
-use Rattle.std.proofs.lemmas.Option.{same_Some, slice_get-get_or}
+use Rattle.std.proofs.lemmas.Option.{get_or_from_slice_get, same_Some, slice_get-get_or, slice_get_within}
 use Rattle.game_theory.specs.Trees.{Tree}
 use Rattle.game_core.specs.Tree.{GameTree, IsGameTree, IsBelow}
 use Rattle.game_core.specs.TreeGame.{game_of_tree}
 use Rattle.reduced_strategies.specs.Places.{ArePlaces}
 use Rattle.game_theory.specs.OwnSets.{numbers_with}
 use Rattle.game_theory.proofs.IndexLemmas.{numbers_with-at, numbers_with-last, numbers_with-length, numbers_with-other}
-use Rattle.strategy_lists.specs.OwnNumbers.{counted, ArePlacesBelow}
+use Rattle.strategy_lists.specs.OwnNumbers.{counted, ArePlacesAmong}
 
 -- so many of each player's own numbers are below n
 abbrev pub AreCounts : (ℕ → Option ℕ) → ℕ → List ℕ → Type 0
@@ -43,6 +43,11 @@ pub place-counted : (owner : ℕ → Option ℕ) (n place : ℕ) (counts : List 
 place-counted owner n place counts h within is i own =
     subst (λ o. IfSome o (λ i. place ≡ get_or counts i 0)) own is ∙ h i (subst (IsBelow (length counts)) own within)
 
+-- each number below n has its place among its owner's own numbers
+pub record ArePlacesBelow (owner : ℕ → Option ℕ) (n : ℕ) (places : List ℕ) : Type 0 where
+  pub one_for_each : length places ≡ n
+  pub are_places : (k i : ℕ) → k < n → owner k ≡ Some i → slice_index places k ≡ length (numbers_with owner i k)
+
 -- one more number has the place that its owner's count says
 pub ArePlacesBelow-next : (owner : ℕ → Option ℕ) (n place : ℕ) (places : List ℕ) → ((i : ℕ) → owner n ≡ Some i → place ≡ length (numbers_with owner i n)) → ArePlacesBelow owner n places → ArePlacesBelow owner (suc n) (places ++ place ∷ [])
 ArePlacesBelow-next owner n place places is h = record {
@@ -56,17 +61,28 @@ ArePlacesBelow-next owner n place places is h = record {
     at_last : (k i : ℕ) → k ≡ n → owner k ≡ Some i → get_or (places ++ place ∷ []) k 0 ≡ length (numbers_with owner i k)
     at_last k i same own = get_or_push places place 0 k (h.one_for_each ∙ sym same) ∙ is i (ap owner (sym same) ∙ own) ∙ ap (λ x. length (numbers_with owner i x)) (sym same)
 
+-- the numbers below the last are all numbers
+pub ArePlacesAmong-all : (owners : List (Option ℕ)) (n : ℕ) (places : List ℕ) → n ≡ length owners → ArePlacesBelow (λ k. get_or owners k None) n places → ArePlacesAmong owners places
+ArePlacesAmong-all owners n places all h = record {
+  one_for_each = h.one_for_each ∙ all;
+  are_places = λ k i own. h.are_places k i (omega (arith, all, slice_get_within owners k (Some i) own)) (get_or_from_slice_get owners k (Some i) None own);
+}
+
 -- places among the owners of the sets are the places of the sets
-pub ArePlaces-below : (t : Tree) (places : List ℕ) → ArePlacesBelow t.owner t.sets places → ArePlaces t places
+ArePlaces-below : (t : Tree) (places : List ℕ) → ArePlacesBelow t.owner t.sets places → ArePlaces t places
 ArePlaces-below t places h = record {
   one_for_each = h.one_for_each;
   are_places = λ s i below own. rw (h.are_places s i below own) (numbers_with-at t.owner i s t.sets below own);
 }
 
 -- the same by the list of the owners
-pub ArePlaces-owners : (t : GameTree) (owners : List (Option ℕ)) (places : List ℕ) → owners ≡ map (λ set. set.owner) t.sets → ArePlacesBelow (λ k. get_or owners k None) (length owners) places → ArePlaces (game_of_tree t) places
+pub ArePlaces-owners : (t : GameTree) (owners : List (Option ℕ)) (places : List ℕ) → owners ≡ map (λ set. set.owner) t.sets → ArePlacesAmong owners places → ArePlaces (game_of_tree t) places
 ArePlaces-owners t owners places is h =
-    let by_sets = subst (λ xs. ArePlacesBelow (λ k. get_or xs k None) (length xs) places) is h in
+    let below : ArePlacesBelow (λ k. get_or owners k None) (length owners) places = record {
+      one_for_each = h.one_for_each;
+      are_places = λ k i inside own. h.are_places k i (slice_get-get_or owners k None inside ∙ ap Some own);
+    } in
+    let by_sets = subst (λ xs. ArePlacesBelow (λ k. get_or xs k None) (length xs) places) is below in
     ArePlaces-below (game_of_tree t) places (subst (λ n. ArePlacesBelow (game_of_tree t).owner n places) (length-map t.sets (λ set. set.owner)) by_sets)
 
 -- the owners of the sets are players

@@ -1,12 +1,12 @@
 -- Each node of a tree but the root has a parent, which stands before it.
 use Rattle.std.proofs.Common.{ℕ, zero, suc, ◌+◌, ◌<◌, ◌≡◌, Option, Some, None, List, [], ◌∷◌, ◌++◌, length, get_or, refl, sym, ap, subst, ◌∙◌, arith}
-use Rattle.std.specs.Prelude.{IsSome, MatchOption}
+use Rattle.std.specs.Prelude.{IsSome, MatchOption, unwrap_or}
 use Rattle.std.proofs.lemmas.List.{get_or-map}
 use Rattle.std.proofs.lemmas.Option.{MatchOption-at_none, MatchOption-at_some}
 use Rattle.game_theory.specs.Trees.{IsTree}
 use Rattle.game_core.specs.declared.tree.Node.{Node}
-use Rattle.game_core.specs.Tree.{GameTree, IsGameTree as is_game, InformationSet, OpenBranch, AreInPrefixOrder, action_count, branches_after}
-use Rattle.game_core.specs.TreeGame.{game_of_tree, or_zero}
+use Rattle.game_core.specs.Tree.{GameTree, IsGameTree as is_game, InformationSet, OpenBranch, AreInPrefixOrder, action_count, branches_from}
+use Rattle.game_core.specs.TreeGame.{game_of_tree}
 
 -- places at nodes
 abbrev AreAtNodes : List OpenBranch → Type 0
@@ -14,7 +14,7 @@ AreAtNodes [] = Unit {0}
 AreAtNodes (place ∷ places) = IsSome place.0 × AreAtNodes places
 
 -- the places of a node's actions are at a node
-AreAtNodes-more : (node a n : ℕ) (free : List OpenBranch) → AreAtNodes free → AreAtNodes (branches_after (Some node) a n ++ free)
+AreAtNodes-more : (node a n : ℕ) (free : List OpenBranch) → AreAtNodes free → AreAtNodes (branches_from (Some node) a n ++ free)
 AreAtNodes-more node a zero free h = h
 AreAtNodes-more node a (suc n) free h = (refl, AreAtNodes-more node (a + 1) n free h)
 
@@ -49,6 +49,6 @@ module _ (t : GameTree) (valid : is_game t) (nodes : List Node) (k : ℕ) (past 
   parent-before above law is =
       let is_parent = sym (ap (λ xs. (get_or xs k past).parent) same) ∙ is in
       let later : 0 < k = MatchOption-at_some _ (λ p. 0 < k) above is_parent (root-alone t.sets t.nodes k past valid.in_prefix_order below) in
-      let parent : (game_of_tree t).parent k ≡ above = ap or_zero (get_or-map (λ node. node.parent) t.nodes k past None below ∙ is_parent) in
+      let parent : (game_of_tree t).parent k ≡ above = ap (λ o. unwrap_or o 0) (get_or-map (λ node. node.parent) t.nodes k past None below ∙ is_parent) in
       let before = law.after_parent k later below in
       (later, sym parent, omega arith)

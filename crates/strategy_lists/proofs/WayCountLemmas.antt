@@ -1,20 +1,48 @@
 -- Counting the ways from the last decision to the first, up to a limit.
-use Rattle.std.proofs.Common.{ℕ, suc, ◌+◌, ◌*◌, ◌<◌, ◌≤◌, ◌^◌, ◌≡◌, inl, inr, Bool, true, false, ◌&&◌, Option, Some, None, List, [], ◌∷◌, ◌++◌, length, map, min, get_or, set, replicate, take, refl, sym, ap, ap₂, ◌∙◌, subst, arith, mul-le-mul, mul_comm, mul-one, mul-zero, zero-mul}
-use Rattle.std.specs.Prelude.{◌==◌, slice_get, if◌then◌else◌}
+use Rattle.std.proofs.Common.{ℕ, suc, ◌+◌, ◌*◌, ◌<◌, ◌≤◌, ◌^◌, ◌≡◌, inl, inr, Bool, true, false, ◌&&◌, Option, Some, None, List, [], ◌∷◌, length, map, min, get_or, set, replicate, drop, take, refl, sym, ap, ap₂, ◌∙◌, subst, arith, mul-le-mul, mul_comm, mul-one, mul-zero, zero-mul}
+use Rattle.std.specs.Prelude.{◌==◌, if◌then◌else◌, slice_get, slice_index, slice_index_or}
 use Rattle.std.specs.List.{range_with_len, sum, sum_by}
 use Rattle.std.proofs.Math.ListN as lists
 use Rattle.std.proofs.Math.Seq.{drop-length}
 use Rattle.std.proofs.lemmas.Bool.{cases_eq, cases_lt, ne_eqb, eq-eqb}
-use Rattle.std.proofs.lemmas.List.{get_or-set_same, get_or-set_other, get_or_append_left, get_or_push, length_push, map-append, length-map, length-replicate, get_or-replicate, map-set}
+use Rattle.std.proofs.lemmas.List.{get_or-set_same, get_or-set_other, length-map, length-replicate, get_or-map, get_or-replicate, map-set}
 use Rattle.std.proofs.lemmas.List.Sums.{sum_by-cons, sum_by_more}
-use Rattle.std.proofs.lemmas.Option.{slice_get_within}
+use Rattle.std.proofs.lemmas.Option.{get_or_from_slice_get, slice_get_within}
 use Rattle.lists.proofs.ElementLemmas.{part-read}
 use Rattle.strategy_lists.specs.declared.decision.Decision.{Decision}
 use Rattle.strategy_lists.specs.declared.decision.Edge.{Edge}
 use Rattle.strategy_lists.specs.Reduced.{ComesFrom, AreLinked}
-use Rattle.strategy_lists.specs.Ways.{AreAfter, leads_from, product_where, ways_from, ways_where}
-use Rattle.strategy_lists.proofs.ReachedDecisionLemmas.{one_decision, below_or_last}
 use Rattle.strategy_lists.proofs.StepLemmas.{drop-first}
+
+-- whether an edge is this action, counted from 1, of decision n
+abbrev pub leads_from : ℕ → ℕ → Option Edge → Bool
+leads_from n action None = false
+leads_from n action (Some edge) = (edge.decision == n) && (action == suc edge.action)
+
+-- the product of the decisions' numbers over those to which a passing edge leads
+abbrev pub product_where : (Option Edge → Bool) → List Decision → List ℕ → ℕ
+product_where passes [] numbers = 1
+product_where passes (d ∷ ds) [] = 1
+product_where passes (d ∷ ds) (n ∷ numbers) = if passes d.before then n * product_where passes ds numbers else product_where passes ds numbers
+
+-- In how many ways the walk goes on from each of these decisions, which are numbered from n: for each action the product of the
+-- ways of the decisions to which it leads, and these added.
+abbrev pub ways_from : List ℕ → ℕ → List Decision → List ℕ
+ways_from actions n [] = []
+ways_from actions n (d ∷ ds) =
+    sum_by (λ a. product_where (leads_from n a) ds (ways_from actions (suc n) ds)) (range_with_len 1 (slice_index actions d.place)) ∷ ways_from actions (suc n) ds
+
+-- the product of the ways of the decisions from number n on to which a passing edge leads
+abbrev pub ways_where : List Decision → List ℕ → ℕ → (Option Edge → Bool) → ℕ
+ways_where decisions actions n passes = product_where passes (drop n decisions) (ways_from actions n (drop n decisions))
+
+-- For each decision and each action of its set the product of the ways of the decisions from number n on to which the action leads,
+-- up to a limit.
+pub record AreAfter (decisions : List Decision) (actions : List ℕ) (n limit : ℕ) (lists : List (List ℕ)) : Type 0 where
+  pub one_for_each : length lists ≡ length decisions
+  pub rooms : (j : ℕ) (d : Decision) → slice_get decisions j ≡ Some d → length (slice_index_or lists j []) ≡ slice_index actions d.place
+  pub products : (j a : ℕ) (d : Decision) → slice_get decisions j ≡ Some d → a < slice_index actions d.place
+      → slice_index (slice_index_or lists j []) a ≡ min (ways_where decisions actions n (leads_from j (suc a))) limit
 
 -- whether nothing comes before a decision
 abbrev pub is_first : Option Edge → Bool
@@ -78,41 +106,22 @@ ways_where-end decisions actions passes = ap (λ ds. product_where passes ds (wa
 pub first-start : (decisions : List Decision) (actions : List ℕ) (limit : ℕ) (passes : Option Edge → Bool) → 0 < limit → 1 ≡ min (ways_where decisions actions (length decisions) passes) limit
 first-start decisions actions limit passes positive = omega (arith, ways_where-end decisions actions passes)
 
--- lists of ones
-pub AreAfter-start : (decisions : List Decision) (actions : List ℕ) (limit : ℕ) (rows : List (List ℕ)) → 0 < limit → length rows ≡ length decisions → ((j : ℕ) (d : Decision) → slice_get decisions j ≡ Some d → get_or rows j [] ≡ replicate (get_or actions d.place 0) 1) → AreAfter decisions actions (length decisions) limit rows
-AreAfter-start decisions actions limit rows positive long are = record {
-  one_for_each = long;
-  rooms = λ j d at. ap length (are j d at) ∙ length-replicate (get_or actions d.place 0) 1;
-  products = λ j a d at l. ap (λ v. get_or v a 0) (are j d at) ∙ get_or-replicate (get_or actions d.place 0) a 1 0 l ∙ first-start decisions actions limit (leads_from j (suc a)) positive;
+-- a list of ones for each decision
+pub AreAfter-ones : {V : Type 0} (items : V → List ℕ) (decisions : List Decision) (actions : List ℕ) (limit : ℕ) (rows : List V) → 0 < limit
+    → map items rows ≡ map (λ d. replicate (get_or actions d.place 0) 1) decisions → AreAfter decisions actions (length decisions) limit (map items rows)
+AreAfter-ones items decisions actions limit rows positive are = record {
+  one_for_each = ap length are ∙ length-map decisions ones;
+  rooms = λ j d at. ap length (row j d at) ∙ length-replicate (get_or actions d.place 0) 1;
+  products = λ j a d at l. ap (λ v. get_or v a 0) (row j d at) ∙ get_or-replicate (get_or actions d.place 0) a 1 0 l ∙ first-start decisions actions limit (leads_from j (suc a)) positive;
 }
+  where
+    ones : Decision → List ℕ
+    ones d = replicate (get_or actions d.place 0) 1
 
--- the rows of ones for the first n decisions
-pub record AreOnes {V : Type 0} (items : V → List ℕ) (decisions : List Decision) (actions : List ℕ) (n : ℕ) (rows : List V) : Type 0 where
-  pub one_for_each : length rows ≡ n
-  pub are_ones : (j : ℕ) (d : Decision) → j < n → slice_get decisions j ≡ Some d → get_or (map items rows) j [] ≡ replicate (get_or actions d.place 0) 1
-
--- none
-pub AreOnes-none : {V : Type 0} (items : V → List ℕ) (decisions : List Decision) (actions : List ℕ) (rows : List V) → rows ≡ [] → AreOnes items decisions actions 0 rows
-AreOnes-none items decisions actions rows e = record { one_for_each = ap length e; are_ones = λ j d l at. absurd (omega arith) }
-
--- one more
-pub AreOnes-next : {V : Type 0} (items : V → List ℕ) (decisions : List Decision) (actions : List ℕ) (n : ℕ) (rows more : List V) (row : V) (d : Decision) → slice_get decisions n ≡ Some d → more ≡ rows ++ row ∷ [] → items row ≡ replicate (get_or actions d.place 0) 1 → AreOnes items decisions actions n rows
-    → AreOnes items decisions actions (suc n) more
-AreOnes-next items decisions actions n rows more row d at push is o =
-    let mapped : map items more ≡ map items rows ++ items row ∷ [] = ap (map items) push ∙ map-append items rows (row ∷ []) in
-    let long : length (map items rows) ≡ n = length-map rows items ∙ o.one_for_each in
-    record {
-      one_for_each = ap length push ∙ omega (arith, length_push rows row, o.one_for_each);
-      are_ones = λ j e l there. ap (λ v. get_or v j []) mapped ∙ elim (below_or_last j n l) [
-        | inl b ↦ get_or_append_left (map items rows) (items row ∷ []) [] j (omega (arith, long)) ∙ o.are_ones j e b there
-        | inr b ↦ get_or_push (map items rows) (items row) [] j (long ∙ sym b) ∙ is ∙ ap (λ (v : Decision). replicate (get_or actions v.place 0) 1) (one_decision decisions j n d e b at there)
-      ];
-    }
-
--- all of them
-pub AreAfter-ones : {V : Type 0} (items : V → List ℕ) (decisions : List Decision) (actions : List ℕ) (n : ℕ) (rows : List V) → n ≡ length decisions → AreOnes items decisions actions n rows → (limit : ℕ) → 0 < limit → AreAfter decisions actions (length decisions) limit (map items rows)
-AreAfter-ones items decisions actions n rows all o limit positive =
-    AreAfter-start decisions actions limit (map items rows) positive (length-map rows items ∙ o.one_for_each ∙ all) (λ j d at. o.are_ones j d (omega (arith, all, slice_get_within decisions j d at)) at)
+    row : (j : ℕ) (d : Decision) → slice_get decisions j ≡ Some d → get_or (map items rows) j [] ≡ ones d
+    row j d at =
+        ap (λ v. get_or v j []) are ∙ get_or-map ones decisions j d [] (slice_get_within decisions j d at)
+        ∙ ap ones (get_or_from_slice_get decisions j d d at)
 
 -- the sum of a decision's numbers is that of its ways
 pub sum-following : (decisions : List Decision) (actions : List ℕ) (n limit : ℕ) (rows : List (List ℕ)) (d : Decision) → AreAfter decisions actions (suc n) limit rows → slice_get decisions n ≡ Some d

@@ -11,10 +11,9 @@ use Rattle.std.proofs.lemmas.List.Recursion.{is_sum_by}
 use Rattle.std.proofs.lemmas.List.Sums.{sum_by-cons}
 use Rattle.strategy_lists.specs.declared.decision.Decision.{Decision}
 use Rattle.strategy_lists.specs.declared.decision.Edge.{Edge}
-use Rattle.strategy_lists.specs.Reduced.{ComesFrom, AreLinked}
+use Rattle.strategy_lists.specs.Reduced.{AreApart, AreLinked, ComesFrom}
 use Rattle.strategy_lists.specs.Ends.{is_led_to, ends}
-use Rattle.strategy_lists.specs.Ways.{AreApart, leads_from, product_where, ways_from}
-use Rattle.strategy_lists.proofs.WayCountLemmas.{is_first}
+use Rattle.strategy_lists.proofs.WayCountLemmas.{is_first, leads_from, product_where, ways_from}
 use Rattle.strategy_lists.proofs.ReachedDecisionLemmas.{last_entry, one_decision, place-within}
 use Rattle.strategy_lists.proofs.EndListLemmas.{AreRest, AreRest-first, AreRest-later, AreRest-all, ends-nil, ends-branch, ends-pass, ends_with, all_ends}
 

@@ -4,4 +4,3 @@ pub mod LeftOut
 pub mod Made
 pub mod OwnNumbers
 pub mod Reduced
-pub mod Ways

@@ -16,6 +16,10 @@ pub record AreLinked (decisions : List Decision) (actions : List ℕ) : Type 0 w
   pub places_within : All (λ d. d.place < length actions) decisions
   pub come_from : (j : ℕ) (d : Decision) → slice_get decisions j ≡ Some d → ComesFrom decisions j d.before
 
+-- no set has two decisions
+abbrev pub AreApart : List Decision → Type 0
+AreApart decisions = (j k : ℕ) (d e : Decision) → slice_get decisions j ≡ Some d → slice_get decisions k ≡ Some e → d.place ≡ e.place → j ≡ k
+
 -- a decision is reached where the one before it is, and the action that leads to it is chosen there
 abbrev pub IsLedTo : (ℕ → Type 0) → List ℕ → Option Edge → Type 0
 IsLedTo reached choices None = Unit {0}

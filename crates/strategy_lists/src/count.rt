@@ -2,8 +2,7 @@
 ghost use Rattle.std.specs.Prelude.{◌≡◌, ◌<◌, ◌+◌, ◌*◌, ◌^◌, List, ℕ, length, map, min, replicate, slice_index, slice_set, IfOk, []};
 ghost use Rattle.std.specs.List.{sum};
 ghost use Rattle.strategy_lists.specs.Ends.{ends};
-ghost use Rattle.strategy_lists.specs.Reduced.{AreLinked, AreReducedBy};
-ghost use Rattle.strategy_lists.specs.Ways.{AreApart, AreAfter};
+ghost use Rattle.strategy_lists.specs.Reduced.{AreApart, AreLinked, AreReducedBy};
 
 use crate::decision::Decision;
 use crate::kept::{kept_decisions, shared_sets};
@@ -32,9 +31,8 @@ fn sum(numbers: &[usize], limit: usize) -> usize
 // For each decision a 1 for each action of its set.
 fn ones(alloc: Global, decisions: &[Decision], actions: &[u32]) -> Result<Vec<Vec<usize>>, Memory>
     requires linked { AreLinked decisions.now actions.now }
-    ensures { IfOk result (λ lists. (limit : ℕ) → 0 < limit
-        → AreAfter decisions.now actions.now (length decisions.now) limit
-        (map (λ v. v.items) lists.items)) }
+    ensures { IfOk result (λ lists. map (λ v. v.items) lists.items
+        ≡ map (λ d. replicate (slice_index actions.now d.place) 1) decisions.now) }
 {
     let mut lists = Vec::with_capacity(alloc, decisions.len())?;
     for decision in decisions {

@@ -8,7 +8,7 @@
 //! Definitions: `specs::Reduced` has decisions that are linked (`AreLinked`) and their reduced
 //! strategies (`AreReducedBy`), `Decisions` the decisions of each player of a tree, `OwnNumbers` the
 //! numbers that are a player's own.
-//! Private words: `specs::Ends`, `Ways` and `LeftOut`, how the code walks and counts; `Made`, the
+//! Private words: `specs::Ends` and `LeftOut`, how the code walks and counts; `Made`, the
 //! decisions while they are made.
 //! Lemmas for callers: `proofs::EndListLemmas` on the ends of a walk, `AscendingOrderLemmas` on
 //! lists in order, `ActionCountLemmas` and `OwnNumberLemmas` on own sets.

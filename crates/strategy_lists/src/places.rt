@@ -1,9 +1,9 @@
 // The places of sets among their owners' own sets.
-ghost use Rattle.std.specs.Prelude.{◌≡◌, ◌<◌, ◌+◌, ◌^◌, All, IfOk, IfSome, length, map, slice_index, slice_index_or};
+ghost use Rattle.std.specs.Prelude.{◌≡◌, ◌<◌, ◌+◌, ◌^◌, All, IfOk, IfSome, length, map, slice_index};
 ghost use Rattle.game_core.specs.Tree.{IsBelow};
 ghost use Rattle.game_core.specs.TreeGame.{game_of_tree};
 ghost use Rattle.reduced_strategies.specs.Places.{ArePlaces};
-ghost use Rattle.strategy_lists.specs.OwnNumbers.{counted, ArePlacesBelow};
+ghost use Rattle.strategy_lists.specs.OwnNumbers.{counted, ArePlacesAmong};
 
 use answers::Memory;
 use game_core::{InfoSet, Tree};
@@ -31,8 +31,7 @@ fn places_among(alloc: Global, players: usize, owners: &[Option<u32>]) -> Result
     requires few { length owners.now < 2 ^ 32 }
     requires within { All (IsBelow players) owners.now }
     ensures { IfOk result
-        (λ places. ArePlacesBelow (λ k. slice_index_or owners.now k None)
-        (length owners.now) places.items) }
+        (λ places. ArePlacesAmong owners.now places.items) }
 {
     let mut counts = vec![in alloc; 0; players]?;
     let mut places = Vec::new(alloc);

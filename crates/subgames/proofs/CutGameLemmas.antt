@@ -1,6 +1,6 @@
 -- The cut that is made is the cut as a game.
 use Rattle.std.proofs.Common.{ℕ, ◌+◌, ◌*◌, ◌<◌, ◌≡◌, Bool, true, false, cond, Option, Some, None, List, [], ◌∷◌, length, map, get_or, replicate, refl, sym, ap, ◌∙◌, subst, arith}
-use Rattle.std.specs.Prelude.{◌==◌}
+use Rattle.std.specs.Prelude.{◌==◌, unwrap_or}
 use Rattle.std.specs.List.{range_with_len}
 use Rattle.std.proofs.lemmas.Bool.{false_from_ne_true}
 use Rattle.std.proofs.lemmas.List.{get_or-map, length-map, length-replicate}
@@ -12,12 +12,11 @@ use Rattle.rational.specs.Sum.{entry_at}
 use Rattle.game_theory.specs.Trees.{IsTree}
 use Rattle.game_core.specs.declared.tree.Action.{Action}
 use Rattle.game_core.specs.declared.tree.Node.{Node}
-use Rattle.game_core.specs.Tree.{GameTree, InformationSet, TreeOutcome, probability_at}
-use Rattle.game_core.specs.TreeGame.{game_of_tree, or_zero, outcome_pays}
+use Rattle.game_core.specs.Tree.{GameTree, InformationSet, TreeOutcome, label_of, probability_at}
+use Rattle.game_core.specs.TreeGame.{game_of_tree, outcome_pays}
 use Rattle.subgames.specs.CutGames.{IsCutGame, IsSameNode, IsSameSet}
 use Rattle.subgames.specs.CutParts.{AreSetNames, actions_of, cut_information_set, cut_node, cut_outcome, cut_pays, cut_set, is_given_end, without_name}
 use Rattle.subgames.specs.FoundSubgames.{AreRootMarks}
-use Rattle.subgames.specs.CutTrees.{label_of}
 use Rattle.subgames.proofs.CutHangLemmas.{made-at, named, node-cut, parent-index, same-count}
 use Rattle.subgames.proofs.CutWalkLemmas.{AreCutNodes, is_given_end-is}
 
@@ -80,7 +79,7 @@ module _ (t : GameTree) (w : IsTree (game_of_tree t)) (begins : List Bool) (n : 
       let up = parent-index t w begins n nodes indices marks root_within are_nodes j later below in
       let other : (j == 0) ≡ false = unequal j 0 (λ e. absurd (omega (arith, e))) in
       let here : (game_of_tree made_cut).parent j ≡ up.0 =
-      ap or_zero (made-at (λ node. node.parent) make (length nodes) j None below ∙ ap (λ b. cond b None (get_or indices p None)) other ∙ up.1) in
+      ap (λ o. unwrap_or o 0) (made-at (λ node. node.parent) make (length nodes) j None below ∙ ap (λ b. cond b None (get_or indices p None)) other ∙ up.1) in
       ap (λ i. get_or nodes i 0) here ∙ up.3
 
   branch_is : (j : ℕ) → 0 < j → j < length nodes → (game_of_tree made_cut).branch j ≡ (game_of_tree t).branch (get_or nodes j 0)

@@ -1,6 +1,6 @@
 -- The nodes of a cut hang in prefix order.
 use Rattle.std.proofs.Common.{ℕ, zero, suc, ◌+◌, ◌<◌, ◌≤◌, ◌≡◌, inl, inr, Bool, true, false, cond, not, Option, Some, None, List, [], ◌∷◌, length, map, get_or, drop, refl, sym, ap, ap₂, ◌∙◌, subst, arith}
-use Rattle.std.specs.Prelude.{◌↔◌, ◌==◌, Contains, is_some}
+use Rattle.std.specs.Prelude.{◌↔◌, ◌==◌, Contains, is_some, unwrap_or}
 use Rattle.std.specs.List.{range_with_len}
 use Rattle.std.proofs.Math.ListN.{drop_of_length-le}
 use Rattle.std.proofs.Math.Seq.{drop-cons}
@@ -13,8 +13,8 @@ use Rattle.lists.proofs.ElementLemmas.{index_of}
 use Rattle.lists.proofs.NumberLemmas.{unequal}
 use Rattle.game_theory.specs.Trees.{IsTree}
 use Rattle.game_core.specs.declared.tree.Node.{Node}
-use Rattle.game_core.specs.Tree.{AreInPrefixOrder, GameTree, InformationSet, IsGameTree, action_count, branches_after}
-use Rattle.game_core.specs.TreeGame.{game_of_tree, or_zero}
+use Rattle.game_core.specs.Tree.{AreInPrefixOrder, GameTree, InformationSet, IsGameTree, action_count, branches_from}
+use Rattle.game_core.specs.TreeGame.{game_of_tree}
 use Rattle.subgames.specs.CutGames.{IsInCut, IsSameSet}
 use Rattle.subgames.specs.CutParts.{AreSetNames, IsIndexOf, actions_of, cut_information_set, cut_node, cut_set, is_given_end, without_name}
 use Rattle.subgames.specs.FoundSubgames.{AreRootMarks}
@@ -73,7 +73,7 @@ module _ (t : GameTree) (w : IsTree (game_of_tree t)) (begins : List Bool) (n : 
 
   -- the index of a node
   abbrev pub index : ℕ → ℕ
-  index k = or_zero (get_or indices k None)
+  index k = unwrap_or (get_or indices k None) 0
 
   -- a later node stands in the cut exactly where its parent goes on
   pub goes-told : (k : ℕ) → k < length t.nodes → n < k → (goes ((game_of_tree t).parent k) ≡ true) ↔ IsInCut (game_of_tree t) n k
@@ -131,7 +131,7 @@ module _ (t : GameTree) (w : IsTree (game_of_tree t)) (begins : List Bool) (n : 
     place k below =
         let parent = get_or-map (λ node. node.parent) t.nodes k (new_node 0) None below in
         let branch = get_or-map (λ node. node.branch) t.nodes k (new_node 0) 0 below in
-        ap₂ (λ p a. cond (goes (or_zero p)) ((Some (index (or_zero p)), a) ∷ []) []) (sym parent) (sym branch)
+        ap₂ (λ p a. cond (goes (unwrap_or p 0)) ((Some (index (unwrap_or p 0)), a) ∷ []) []) (sym parent) (sym branch)
 
     -- a node that does not stand there is left out
     out-ends : (k : ℕ) → k < length t.nodes → (Contains nodes k → ⊥) → goes k ≡ false
@@ -165,11 +165,11 @@ module _ (t : GameTree) (w : IsTree (game_of_tree t)) (begins : List Bool) (n : 
         go true given =
             let off : goes k ≡ false = ap₂ (λ o b. cond (is_some o) (not b) false) own given in
             let none : 0 ≡ action_count new_sets (get_or names j None) = ap (λ b. action_count t.sets (cond b None ((game_of_tree t).set k))) (sym given) ∙ count in
-            kept-none goes index k 0 _ off ∙ ap (branches_after (Some j) 0) none
+            kept-none goes index k 0 _ off ∙ ap (branches_from (Some j) 0) none
         go false other =
             let on : goes k ≡ true = ap₂ (λ o b. cond (is_some o) (not b) false) own other in
             let all : action_count t.sets (get_or t.nodes k (new_node 0)).set ≡ action_count new_sets (get_or names j None) = ap (action_count t.sets) (sym set_is) ∙ ap (λ b. action_count t.sets (cond b None ((game_of_tree t).set k))) (sym other) ∙ count in
-            kept-all goes index k 0 _ on ∙ ap₂ (λ i m. branches_after (Some i) 0 m) (ap or_zero own) all
+            kept-all goes index k 0 _ on ∙ ap₂ (λ i m. branches_from (Some i) 0 m) (ap (λ o. unwrap_or o 0) own) all
 
     -- a later node of the cut hangs at its parent's index
     is-in : (j k : ℕ) → 0 < j → j < length nodes → get_or nodes j 0 ≡ k → IsIn goes index t.sets new_sets j k (get_or t.nodes k (new_node 0)) (new_node j)
@@ -181,7 +181,7 @@ module _ (t : GameTree) (w : IsTree (game_of_tree t)) (begins : List Bool) (n : 
         let other : (j == 0) ≡ false = unequal j 0 (λ e. absurd (omega (arith, e))) in
         let hangs : kept_from goes index (get_or t.nodes here (new_node 0)).parent (get_or t.nodes here (new_node 0)).branch ≡ ((new_node j).parent, (new_node j).branch) ∷ [] =
         place here cut.0 ∙ ap (λ b. cond b ((Some (index p), (game_of_tree t).branch here) ∷ []) []) ((goes-told here cut.0 (others-later j later below)).1 cut)
-        ∙ ap₂ (λ q a. (q, a) ∷ []) (ap (λ o. Some (or_zero o)) up.1 ∙ sym up.1 ∙ sym (ap (λ b. cond b None (get_or indices p None)) other)) (sym (ap (λ b. cond b 0 ((game_of_tree t).branch here)) other)) in
+        ∙ ap₂ (λ q a. (q, a) ∷ []) (ap (λ o. Some (unwrap_or o 0)) up.1 ∙ sym up.1 ∙ sym (ap (λ b. cond b None (get_or indices p None)) other)) (sym (ap (λ b. cond b 0 ((game_of_tree t).branch here)) other)) in
         subst (λ k. IsIn goes index t.sets new_sets j k (get_or t.nodes k (new_node 0)) (new_node j)) at (record { hangs = hangs; same_branches = same-branches j here below refl })
 
     -- so many nodes of the cut come before node k

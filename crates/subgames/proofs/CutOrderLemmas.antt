@@ -1,15 +1,15 @@
 -- Prefix order where nodes and branches are left out.
 use Rattle.std.proofs.Common.{ℕ, zero, suc, ◌+◌, ◌≡◌, ◌⊎◌, inl, inr, Bool, true, false, cond, Option, Some, None, List, [], ◌∷◌, ◌++◌, drop, refl, sym, ap, ap₂, ◌∙◌, subst, subst₂}
+use Rattle.std.specs.Prelude.{unwrap_or}
 use Rattle.std.specs.List.{flat_map}
 use Rattle.std.proofs.lemmas.Grind.{flat_map-append}
 use Rattle.game_core.specs.declared.tree.Node.{Node}
-use Rattle.game_core.specs.TreeGame.{or_zero}
-use Rattle.game_core.specs.Tree.{InformationSet, OpenBranch, action_count, branches_after, AreInPrefixOrder}
+use Rattle.game_core.specs.Tree.{InformationSet, OpenBranch, action_count, branches_from, AreInPrefixOrder}
 
 -- ---- the branches that stay
 -- a branch stays where its node goes on, and hangs at that node's new number
 abbrev pub kept_from : (ℕ → Bool) → (ℕ → ℕ) → Option ℕ → ℕ → List OpenBranch
-kept_from goes index p a = cond (goes (or_zero p)) ((Some (index (or_zero p)), a) ∷ []) []
+kept_from goes index p a = cond (goes (unwrap_or p 0)) ((Some (index (unwrap_or p 0)), a) ∷ []) []
 
 -- those of a list of branches that stay
 abbrev pub kept : (ℕ → Bool) → (ℕ → ℕ) → List OpenBranch → List OpenBranch
@@ -22,17 +22,17 @@ nothing-later (b ∷ bs) cs is = cc
 
 module _ (goes : ℕ → Bool) (index : ℕ → ℕ) where
   -- all branches of a node that goes on
-  pub kept-all : (k a m : ℕ) → goes k ≡ true → kept goes index (branches_after (Some k) a m) ≡ branches_after (Some (index k)) a m
+  pub kept-all : (k a m : ℕ) → goes k ≡ true → kept goes index (branches_from (Some k) a m) ≡ branches_from (Some (index k)) a m
   kept-all k a zero on = refl
   kept-all k a (suc m) on =
-      ap (λ b. cond b ((Some (index k), a) ∷ []) [] ++ kept goes index (branches_after (Some k) (a + 1) m)) on
+      ap (λ b. cond b ((Some (index k), a) ∷ []) [] ++ kept goes index (branches_from (Some k) (a + 1) m)) on
       ∙ ap (λ bs. (Some (index k), a) ∷ bs) (kept-all k (a + 1) m on)
 
   -- none of another
-  pub kept-none : (k a m : ℕ) → goes k ≡ false → kept goes index (branches_after (Some k) a m) ≡ []
+  pub kept-none : (k a m : ℕ) → goes k ≡ false → kept goes index (branches_from (Some k) a m) ≡ []
   kept-none k a zero off = refl
   kept-none k a (suc m) off =
-      ap (λ b. cond b ((Some (index k), a) ∷ []) [] ++ kept goes index (branches_after (Some k) (a + 1) m)) off
+      ap (λ b. cond b ((Some (index k), a) ∷ []) [] ++ kept goes index (branches_from (Some k) (a + 1) m)) off
       ∙ kept-none k (a + 1) m off
 
   -- none of the branches after the first of those that do not stay
@@ -50,7 +50,7 @@ module _ (goes : ℕ → Bool) (index : ℕ → ℕ) where
     -- the branches of node k are those of node j among the nodes that stay
     abbrev pub HasSameBranches : ℕ → ℕ → Node → Node → Type 0
     HasSameBranches j k node new =
-        kept goes index (branches_after (Some k) 0 (action_count sets node.set)) ≡ branches_after (Some j) 0 (action_count new_sets new.set)
+        kept goes index (branches_from (Some k) 0 (action_count sets node.set)) ≡ branches_from (Some j) 0 (action_count new_sets new.set)
 
     -- node k is node j of those that stay
     pub record IsIn (j k : ℕ) (node new : Node) : Type 0 where
@@ -65,8 +65,8 @@ module _ (goes : ℕ → Bool) (index : ℕ → ℕ) where
         ⊎ ((new : Node) × (later : List Node) × (news ≡ new ∷ later) × IsIn j k node new × AreThose (suc k) nodes (suc j) later)
 
     -- what stays free after a node
-    kept-after : (k m : ℕ) (free : List OpenBranch) (own : List OpenBranch) → kept goes index (branches_after (Some k) 0 m) ≡ own → kept goes index (branches_after (Some k) 0 m ++ free) ≡ own ++ kept goes index free
-    kept-after k m free own is = flat_map-append (λ b. kept_from goes index b.0 b.1) (branches_after (Some k) 0 m) free ∙ ap (λ bs. bs ++ kept goes index free) is
+    kept-after : (k m : ℕ) (free : List OpenBranch) (own : List OpenBranch) → kept goes index (branches_from (Some k) 0 m) ≡ own → kept goes index (branches_from (Some k) 0 m ++ free) ≡ own ++ kept goes index free
+    kept-after k m free own is = flat_map-append (λ b. kept_from goes index b.0 b.1) (branches_from (Some k) 0 m) free ∙ ap (λ bs. bs ++ kept goes index free) is
 
     -- they keep prefix order
     pub order-kept : (k : ℕ) (nodes : List Node) (j : ℕ) (news : List Node) (free : List OpenBranch) → AreThose k nodes j news → AreInPrefixOrder sets k nodes free [] → AreInPrefixOrder new_sets j news (kept goes index free) []
@@ -99,5 +99,5 @@ module _ (goes : ℕ → Bool) (index : ℕ → ℕ) where
         order-tree (suc k) nodes news _ out.1 h.1 (nothing-after _ (kept-after k (action_count sets node.set) free [] (kept-none k 0 (action_count sets node.set) out.0) ∙ none))
     order-tree k (node ∷ nodes) news (b ∷ free) (inr h) order none =
         let rest = order-kept (suc k) nodes 1 h.1 _ h.6 order.1 in
-        let same = kept-after k (action_count sets node.set) free _ h.5 ∙ ap (λ bs. branches_after (Some 0) 0 (action_count new_sets h.0.set) ++ bs) none in
+        let same = kept-after k (action_count sets node.set) free _ h.5 ∙ ap (λ bs. branches_from (Some 0) 0 (action_count new_sets h.0.set) ++ bs) none in
         subst (λ ms. AreInPrefixOrder new_sets 0 ms ((None, 0) ∷ []) []) (sym h.2) (ap₂ (λ p a. (p, a)) h.3 h.4, subst (λ bs. AreInPrefixOrder new_sets 1 h.1 bs []) same rest)

@@ -11,6 +11,7 @@ use Rattle.std.proofs.lemmas.Option.{get_or_from_slice_get, slice_get_within, sa
 use Rattle.indexmap.specs.IndexSet.{insert_key}
 use Rattle.lists.proofs.ElementLemmas.{slice_get-end, slice_get-longer, slice_get-push_cases}
 use Rattle.game_core.specs.Tree.{AreInOrderOfFirstUse}
+use Rattle.game_core.proofs.FirstUseLemmas.{in_order-name, in_order-names}
 use Rattle.subgames.specs.CutGames.{IsSameSet}
 use Rattle.subgames.specs.CutParts.{AreIndicesIn, AreSetNames, HasNumber, IsIndexOf}
 
@@ -68,10 +69,10 @@ module _ (keys names : List (Option ℕ)) (sets : List ℕ) (h : AreSetNames key
 
   -- names that stay in order with one more
   next-order : (name : Option ℕ) → ((s r : ℕ) → name ≡ Some s → r < s → r < length sets) → AreInOrderOfFirstUse (names ++ name ∷ [])
-  next-order name low k s r is below = elim (slice_get-push_cases names name k (Some s) is) [
-    | inl early ↦ let first = h.in_order k s r early below in (first.0, first.1, slice_get-longer names (name ∷ []) first.0 (Some r) first.2)
+  next-order name low = in_order-names (names ++ name ∷ []) (λ k s r is below. elim (slice_get-push_cases names name k (Some s) is) [
+    | inl early ↦ let first = in_order-name names h.in_order k s r early below in (first.0, first.1, slice_get-longer names (name ∷ []) first.0 (Some r) first.2)
     | inr last ↦ let first = h.used r (low s r (sym last.1) below) in (first.0, omega (arith, last.0, slice_get_within names first.0 (Some r) first.1), slice_get-longer names (name ∷ []) first.0 (Some r) first.1)
-  ]
+  ])
 
   -- one more node without a set, or with one of these sets
   pub names-old : (key name : Option ℕ) → IsSameSet sets key name → ((s : ℕ) → name ≡ Some s → s < length sets) → AreSetNames (keys ++ key ∷ []) (names ++ name ∷ []) sets

@@ -1,5 +1,6 @@
 -- The cut that is made is a game tree within the limits.
 use Rattle.std.proofs.Common.{ℕ, zero, suc, ◌<◌, ◌≤◌, ◌≡◌, inl, inr, Bool, cond, Option, Some, None, List, [], All, length, map, get_or, slice_get, replicate, refl, sym, ap, ap₂, ◌∙◌, subst, subst₂, arith}
+use Rattle.std.specs.Prelude.{unwrap_or}
 use Rattle.std.specs.List.{range_with_len}
 use Rattle.std.proofs.lemmas.Bool.{cases_eq, eq-eqb}
 use Rattle.std.proofs.lemmas.List.{get_or_default, length-map, length-replicate, map-id}
@@ -17,14 +18,15 @@ use Rattle.game_theory.proofs.IndexLemmas.{numbers_with-at}
 use Rattle.game_core.specs.declared.tree.Action.{Action}
 use Rattle.game_core.specs.declared.tree.Node.{Node}
 use Rattle.game_core.specs.Tree.{AreInOrderOfFirstUse, GameTree, InformationSet, IsBelow, IsGameTree, LiesBelowRoot, NodeFits, ProbabilitiesFit, SetFits, TreeOutcome, kind_at, kind_of_owner, members_of}
-use Rattle.game_core.specs.TreeGame.{game_of_tree, or_zero}
+use Rattle.game_core.specs.TreeGame.{game_of_tree}
+use Rattle.game_core.proofs.FirstUseLemmas.{in_order-names}
 use Rattle.game_core.proofs.PrefixOrderLemmas.{hangs_at, root}
 use Rattle.game_core.proofs.TreeLaws.{part_of}
 use Rattle.subgames.specs.CutGames.{IsSameSet}
 use Rattle.subgames.specs.CutParts.{AreSetNames, actions_of, cut_information_set, cut_node, cut_outcome, cut_pays, cut_set, named_kind, without_name}
 use Rattle.subgames.specs.CutTrees.{IsBareTree, IsCutAt}
 use Rattle.subgames.specs.FoundSubgames.{AreRootMarks}
-use Rattle.subgames.specs.MadeCuts.{given_at}
+use Rattle.subgames.specs.MadeCuts.{worth_at}
 use Rattle.subgames.proofs.CutGameLemmas.{is_cut_game, made_cut, same_labels, same-probabilities, set_within}
 use Rattle.subgames.proofs.CutHangLemmas.{cut-in_order, made-at, named, node-cut, others-later, parent-index}
 use Rattle.subgames.proofs.CutWalkLemmas.{AreCutNodes}
@@ -36,7 +38,7 @@ module _ (t : GameTree) (valid : IsGameTree t) (w : IsTree (game_of_tree t)) whe
   lies-deeper d k later below h =
       let node = element t.nodes k below in
       let up = hangs_at t.sets t.nodes valid.in_prefix_order k later below in
-      let same : (game_of_tree t).parent k ≡ up.0 = ap or_zero up.2 in
+      let same : (game_of_tree t).parent k ≡ up.0 = ap (λ o. unwrap_or o 0) up.2 in
       (node.0, up.0, node.1, sym (part_of (λ node. node.parent) t.nodes k node.0 None node.1) ∙ up.2, subst (LiesBelowRoot t.nodes d) same h)
 
   -- each node lies some edges below the root
@@ -58,7 +60,8 @@ kept-probabilities : (owner : Option ℕ) (actions : List Action) → Probabilit
 kept-probabilities None actions h =
     let long : length (map without_name actions) ≡ length actions = rw length-map in
     record {
-      not_negative = All-map (λ action. zero_ℚ ≤ℚ action.prob) without_name actions h.not_negative;
+      not_negative = λ a below.
+          subst (λ probs. zero_ℚ ≤ℚ entry_at probs a) (sym (same-probabilities actions)) (h.not_negative a (subst (λ m. a < m) long below));
       sum_is_one = ap₂ sum_to long (ap (λ probs a. entry_at probs a) (same-probabilities actions)) ∙ h.sum_is_one;
     }
 kept-probabilities (Some i) actions h = All-map (λ action. action.prob ≡ zero_ℚ) without_name actions h
@@ -144,12 +147,12 @@ module _ (t : GameTree) (valid : IsGameTree t) (w : IsTree (game_of_tree t)) (be
       slice_get-get_or (map (λ (node : Node). node.outcome) cut.nodes) k None inside ∙ ap Some (made-at (λ (node : Node). node.outcome) make (length nodes) k None below)
 
   outcomes_in_order : AreInOrderOfFirstUse (map (λ (node : Node). node.outcome) cut.nodes)
-  outcomes_in_order k s r is less =
+  outcomes_in_order = in_order-names (map (λ (node : Node). node.outcome) cut.nodes) (λ k s r is less.
       let inside = slice_get_within (map (λ (node : Node). node.outcome) cut.nodes) k (Some s) is in
       let long : length (map (λ (node : Node). node.outcome) cut.nodes) ≡ length nodes = rw length-map node_count in
       let below : k < length nodes = omega (arith, inside, long) in
       let same : s ≡ k = same_Some s k (same_Some _ _ (sym is ∙ own_outcome k below)) in
-      (r, omega (arith, same, less), own_outcome r (omega (arith, same, less, below)))
+      (r, omega (arith, same, less), own_outcome r (omega (arith, same, less, below))))
 
   -- a node of the cut lies no deeper than in the tree
   no_deeper : (d j : ℕ) → LiesBelowRoot cut.nodes d j → (e : ℕ) × (d ≤ e) × LiesBelowRoot t.nodes e (get_or nodes j 0)
@@ -212,7 +215,7 @@ module _ (t : GameTree) (valid : IsGameTree t) (w : IsTree (game_of_tree t)) (be
   -- a tree of these parts is the cut as a tree
   pub cut_tree : (title : List ℕ) (players : List (List ℕ)) (new_nodes : List Node) (new_sets : List InformationSet) (outcomes : List TreeOutcome)
       → title ≡ [] → players ≡ replicate (length t.players) [] → new_nodes ≡ cut.nodes → new_sets ≡ cut.sets → outcomes ≡ cut.outcomes
-      → (cut_is : GameTree) × (cut_is ≡ record { title = title; players = players; nodes = new_nodes; sets = new_sets; outcomes = outcomes }) × IsCutAt t n (given_at (length t.players) worth) nodes sets cut_is
+      → (cut_is : GameTree) × (cut_is ≡ record { title = title; players = players; nodes = new_nodes; sets = new_sets; outcomes = outcomes }) × IsCutAt t n (worth_at (length t.players) worth) nodes sets cut_is
   cut_tree title players new_nodes new_sets outcomes of_title of_players of_nodes of_sets of_outcomes = (
     cut,
     (λ j. record { title = sym of_title j; players = sym of_players j; nodes = sym of_nodes j; sets = sym of_sets j; outcomes = sym of_outcomes j }),

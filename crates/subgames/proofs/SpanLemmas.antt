@@ -12,7 +12,7 @@ use Rattle.game_theory.proofs.SubtreeLemmas.{above_parent}
 use Rattle.game_core.specs.Tree.{GameTree, IsGameTree}
 use Rattle.game_core.specs.TreeGame.{game_of_tree}
 use Rattle.subgames.specs.Roots.{HasWholeSets}
-use Rattle.subgames.specs.Spans.{AreOwnSpans, AreSpans, AreTogether, IsOwnSpan, IsReached, IsSpan}
+use Rattle.subgames.specs.Spans.{AreOwnSpans, AreSpans, AreTogether, IsOwnSpan, IsTogetherWithSubtree, IsSpan}
 use Rattle.subgames.specs.declared.roots.Span.{Span}
 use Rattle.game_theory.proofs.SubtreeOrderLemmas.{within-after}
 use Rattle.game_core.proofs.ParentPathLemmas.{within-between}
@@ -212,7 +212,7 @@ module _ (t : Tree) (w : IsTree t) where
 pub whole-by_span : (t : GameTree) (k : ℕ) (span : Span) → IsGameTree t → IsTree (game_of_tree t) → IsSpan (game_of_tree t) k span → ((k ≤ span.least) × (span.greatest ≤ span.last)) ↔ HasWholeSets (game_of_tree t) k
 whole-by_span t k span valid w h = (
   λ within c d i s in_c in_d at_c at_d below.
-      let reached : IsReached (game_of_tree t) k d = (c, in_c, below, (in_d, inr (i, s, at_c, at_d))) in
+      let reached : IsTogetherWithSubtree (game_of_tree t) k d = (c, in_c, below, (in_d, inr (i, s, at_c, at_d))) in
       within-between t k d span.last valid w (omega (arith, within.0, h.least.1 d reached)) (omega (arith, within.1, h.greatest.1 d reached)) h.last.0.0 h.last.0.1,
   λ whole. (
     within-after (game_of_tree t) w k span.least h.least.0.3.0 (inside whole span.least h.least.0),
@@ -220,7 +220,7 @@ whole-by_span t k span valid w h = (
   ),
 )
   where
-    inside : HasWholeSets (game_of_tree t) k → (d : ℕ) → IsReached (game_of_tree t) k d → IsWithin (game_of_tree t) k d
+    inside : HasWholeSets (game_of_tree t) k → (d : ℕ) → IsTogetherWithSubtree (game_of_tree t) k d → IsWithin (game_of_tree t) k d
     inside whole d r = elim r.3.1 [
       | inl same ↦ subst (IsWithin (game_of_tree t) k) same r.2
       | inr both ↦ whole r.0 d both.0 both.1 r.1 r.3.0 both.2 both.3 r.2

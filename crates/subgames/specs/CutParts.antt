@@ -9,11 +9,10 @@ use Rattle.game_core.specs.declared.tree.Action.{Action}
 use Rattle.game_core.specs.declared.tree.Kind.{Kind}
 use Rattle.game_core.specs.declared.tree.Kind.TheVariants.{End}
 use Rattle.game_core.specs.declared.tree.Node.{Node}
-use Rattle.game_core.specs.Tree.{AreInOrderOfFirstUse, GameTree, InformationSet, TreeOutcome, kind_of_owner}
+use Rattle.game_core.specs.Tree.{AreInOrderOfFirstUse, GameTree, InformationSet, TreeOutcome, kind_of_owner, label_of}
 use Rattle.game_core.specs.TreeGame.{game_of_tree}
 use Rattle.subgames.specs.CutGames.{IsGivenEnd, IsInCut, IsSameSet}
 use Rattle.subgames.specs.Roots.{IsSubgameRoot}
-use Rattle.subgames.specs.CutTrees.{label_of}
 
 -- whether node k is an end of the cut at node n with given payoffs
 abbrev pub is_given_end : List Bool → ℕ → ℕ → Bool

@@ -1,14 +1,10 @@
 -- The cut at a node as a tree of its own.
-use Rattle.std.specs.Prelude.{ℕ, ◌<◌, ◌≡◌, List, [], All, Some, length, map, replicate, slice_index, slice_index_or}
+use Rattle.std.specs.Prelude.{ℕ, ◌<◌, ◌≡◌, List, [], All, Some, length, map, replicate, slice_index}
 use Rattle.std.specs.List.{range_with_len}
 use Rattle.rational.specs.Rational.{ℚ}
-use Rattle.game_core.specs.Tree.{GameTree, IsGameTree}
+use Rattle.game_core.specs.Tree.{GameTree, IsGameTree, label_of}
 use Rattle.game_core.specs.TreeGame.{game_of_tree}
 use Rattle.subgames.specs.CutGames.{IsCutGame, IsGivenEnd, IsInCut}
-
--- the number that a file gives a set
-abbrev pub label_of : GameTree → ℕ → ℕ
-label_of t s = slice_index_or (map (λ set. set.label) t.sets) s 0
 
 -- a tree that is the cut at node n, whose sets keep the numbers that a file gives them
 pub record IsCutTree (t : GameTree) (n : ℕ) (worth : ℕ → ℕ → ℚ) (nodes sets : List ℕ) (cut : GameTree)
@@ -28,7 +24,7 @@ pub record IsBareTree (players : ℕ) (cut : GameTree) : Type 0 where
   pub own_outcomes : map (λ node. node.outcome) cut.nodes ≡ map Some (range_with_len 0 (length cut.nodes))
   pub bare_outcomes : All (λ outcome. (outcome.label ≡ 0) × (outcome.name ≡ [])) cut.outcomes
 
--- the cut at node n, of which there is one
+-- the cut at node n, of which there is at most one
 pub record IsCutAt (t : GameTree) (n : ℕ) (worth : ℕ → ℕ → ℚ) (nodes sets : List ℕ) (cut : GameTree)
     : Type 0 where
   pub is_cut : IsCutTree t n worth nodes sets cut
@@ -40,7 +36,7 @@ AgreeAtEnds t n worth other =
     (k i : ℕ) → i < length t.players → IsInCut (game_of_tree t) n k → IsGivenEnd (game_of_tree t) n k
     → worth k i ≡ other k i
 
--- a tree has one cut at a node where the ends are worth the same
+-- a tree has at most one cut at a node where the ends are worth the same
 abbrev pub CutsAreSingle : Type 0
 CutsAreSingle =
     (t : GameTree) (n : ℕ) (worth other : ℕ → ℕ → ℚ) (nodes sets nodes_too sets_too : List ℕ)

@@ -21,5 +21,5 @@ code_of_cut =
     (λ p. record { tree = p.0; nodes = p.1.0; sets = p.1.1 }) (λ _. refl)
 
 -- what is given for player i at node k, in a list of one number for each player at each node
-abbrev pub given_at : (players : ℕ) → List ℚ → (k i : ℕ) → ℚ
-given_at players worth k i = entry_at worth (k * players + i)
+abbrev pub worth_at : (players : ℕ) → List ℚ → (k i : ℕ) → ℚ
+worth_at players worth k i = entry_at worth (k * players + i)

@@ -18,8 +18,8 @@ AreTogether t c d =
     (d < t.size) × ((c ≡ d) ⊎ ((i : ℕ) × (s : ℕ) × Chooses t c i s × Chooses t d i s))
 
 -- node d is in the subtree of node k, or in one player's set with a node that is
-abbrev pub IsReached : Tree → ℕ → ℕ → Type 0
-IsReached t k d = (c : ℕ) × (c < t.size) × IsWithin t k c × AreTogether t c d
+abbrev pub IsTogetherWithSubtree : Tree → ℕ → ℕ → Type 0
+IsTogetherWithSubtree t k d = (c : ℕ) × (c < t.size) × IsWithin t k c × AreTogether t c d
 
 -- the span of node c alone
 pub record IsOwnSpan (t : Tree) (c : ℕ) (span : Span) : Type 0 where
@@ -29,8 +29,8 @@ pub record IsOwnSpan (t : Tree) (c : ℕ) (span : Span) : Type 0 where
 
 -- the span of the subtree of node k
 pub record IsSpan (t : Tree) (k : ℕ) (span : Span) : Type 0 where
-  pub least : IsLeast (IsReached t k) span.least
-  pub greatest : IsGreatest (IsReached t k) span.greatest
+  pub least : IsLeast (IsTogetherWithSubtree t k) span.least
+  pub greatest : IsGreatest (IsTogetherWithSubtree t k) span.greatest
   pub last : IsGreatest (λ c. (c < t.size) × IsWithin t k c) span.last
 
 -- for each of the first n nodes its own span

@@ -181,9 +181,8 @@ pub(crate) fn made_sets(
 {
     let lists = member_lists(alloc, sets.len(), names)?;
     let mut made = Vec::with_capacity(alloc, sets.len())?;
-    for number in 0..sets.len() {
-        let members = lists[number].as_slice().to_vec(alloc)?;
-        let set = made_set(alloc, tree, sets, members, number as u32)?;
+    for members in lists {
+        let set = made_set(alloc, tree, sets, members, made.len() as u32)?;
         made.push(set)?;
     }
     Ok(made)

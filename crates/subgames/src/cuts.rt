@@ -77,12 +77,12 @@ impl Model for Subgames {
 }
 
 impl Subgames {
-    ghost use Rattle.std.specs.Prelude.{◌≡◌, ◌*◌, ◌<◌, ◌↔◌, IfOk, IsTrue, length};
+    ghost use Rattle.std.specs.Prelude.{◌≡◌, ◌*◌, ◌<◌, ◌↔◌, IfOk, IsTrue, false, length, slice_index_or};
     ghost use Rattle.game_core.specs.Tree.{GameTree};
     ghost use Rattle.game_core.specs.TreeGame.{game_of_tree};
     ghost use Rattle.subgames.specs.CutTrees.{IsCutAt};
     ghost use Rattle.subgames.specs.FoundSubgames.{AreSubgamesOf};
-    ghost use Rattle.subgames.specs.MadeCuts.{given_at};
+    ghost use Rattle.subgames.specs.MadeCuts.{worth_at};
     ghost use Rattle.subgames.specs.Roots.{IsSubgameRoot};
 
     /// Finds the subgames of a tree.
@@ -96,13 +96,11 @@ impl Subgames {
 
     /// Whether a subgame begins at a node, from 0; not past the last node. Takes no memory.
     pub fn begins_at(&self, node: u32) -> bool
-        ensures { (tree : GameTree) → AreSubgamesOf tree self.now → node < length tree.nodes
+        ensures root { (tree : GameTree) → AreSubgamesOf tree self.now → node < length tree.nodes
             → IsTrue result ↔ IsSubgameRoot (game_of_tree tree) node }
+        ensures marked { result ≡ slice_index_or self.now.begins node false }
     {
-        match self.begins.get(node as usize) {
-            Some(begins) => *begins,
-            None => false,
-        }
+        self.begins.get(node as usize).copied().unwrap_or(false)
     }
 
     /// The cut at a node where a subgame begins: the nodes of the subgame down to the next such
@@ -124,7 +122,7 @@ impl Subgames {
         requires root { IsSubgameRoot (game_of_tree tree.now) root }
         requires worth { length worth.now ≡ length tree.now.nodes * length tree.now.players }
         ensures { IfOk result (λ cut. IsCutAt tree.now root
-            (given_at (length tree.now.players) worth.now) cut.nodes cut.sets cut.tree) }
+            (worth_at (length tree.now.players) worth.now) cut.nodes cut.sets cut.tree) }
     {
         stands_for_game_tree(tree);
         let begins = self.begins.as_slice();

@@ -7,7 +7,7 @@ use Rattle.rational.specs.Rational.{ℚ, ◌+ℚ◌, zero_ℚ, one_ℚ}
 use Rattle.rational.specs.Tests.{le_test, eq_ℚ}
 use Rattle.rational.proofs.RationalRing.{+ℚ-zero}
 use Rattle.rational.proofs.Rules.{zero-+ℚ}
-use Rattle.frac128.specs.Steps.{AddFits, unfit}
+use Rattle.frac128.specs.Steps.{AddFits, step_of}
 use Rattle.frac128.specs.declared.steps.Op.TheVariants.{Add}
 use Rattle.game_core.specs.declared.tree.Action.{Action}
 use Rattle.game_core.specs.Tree.{probability_at}
@@ -37,7 +37,7 @@ sum_first sum action actions = sum_onward sum (length actions) (probability_at (
 
 -- why a probability may not come
 abbrev pub SumStops : ℕ → ℚ → ℚ → EfgKind → Type 0
-SumStops set sum v kind = (AddFits sum v × (kind ≡ Probability set (sum +ℚ v))) ⊎ ((AddFits sum v → ⊥) × (kind ≡ ProbabilityRange set (unfit Add sum v)))
+SumStops set sum v kind = (AddFits sum v × (kind ≡ Probability set (sum +ℚ v))) ⊎ ((AddFits sum v → ⊥) × (kind ≡ ProbabilityRange set (step_of Add sum v)))
 
 pub sum_stops : (set : ℕ) (sum v : ℚ) (kind : EfgKind) → sum_with set sum v ≡ Err kind → SumStops set sum v kind
 unfolding sum_with
@@ -46,8 +46,8 @@ sum_stops set sum v kind e = elim (cases_Bool (add_test sum v)) [
       let o : (if le_test zero_ℚ v && le_test (sum +ℚ v) one_ℚ then Ok (sum +ℚ v) else Err (Probability set (sum +ℚ v))) ≡ Err kind = rw a at e in
       inl ((add_test-Decides sum v).0 a, by (le_test zero_ℚ v && le_test (sum +ℚ v) one_ℚ) o)
   | inr a ↦
-      let o : ◌≡◌ {A = Result ℚ EfgKind} (Err (ProbabilityRange set (unfit Add sum v))) (Err kind) = rw a at e in
-      inr (λ f. true≢false (sym ((add_test-Decides sum v).1 f) ∙ a), sym (err_same (ProbabilityRange set (unfit Add sum v)) kind o))
+      let o : ◌≡◌ {A = Result ℚ EfgKind} (Err (ProbabilityRange set (step_of Add sum v))) (Err kind) = rw a at e in
+      inr (λ f. true≢false (sym ((add_test-Decides sum v).1 f) ∙ a), sym (err_same (ProbabilityRange set (step_of Add sum v)) kind o))
 ]
   where
     by : (is : Bool) → ◌≡◌ {A = Result ℚ EfgKind} (if is then Ok (sum +ℚ v) else Err (Probability set (sum +ℚ v))) (Err kind) → kind ≡ Probability set (sum +ℚ v)

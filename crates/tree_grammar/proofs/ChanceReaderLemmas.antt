@@ -8,7 +8,7 @@ use Rattle.rational.proofs.Field.{le_refl, le_trans, le-add_left}
 use Rattle.rational.proofs.PartLemmas.{frac-le}
 use Rattle.rational.proofs.RationalRing.{+ℚ-zero}
 use Rattle.std.proofs.lemmas.Int.{ints}
-use Rattle.frac128.specs.Steps.{AddFits, unfit}
+use Rattle.frac128.specs.Steps.{AddFits, step_of}
 use Rattle.frac128.specs.declared.steps.Op.TheVariants.{Add}
 use Rattle.frac128.proofs.PartLemmas.{zero-den}
 use Rattle.game_core.specs.declared.tree.Action.{Action}
@@ -55,7 +55,7 @@ may_come set sum prob next e = elim (cases_Bool (add_test sum prob)) [
     ]
     | inr b ↦ let o : ◌≡◌ {A = Result ℚ EfgKind} (Err (Probability set (sum +ℚ prob))) (Ok next) = rw (a, b) at e in absurd (ok_err next (Probability set (sum +ℚ prob)) (sym o))
   ]
-  | inr a ↦ let o : ◌≡◌ {A = Result ℚ EfgKind} (Err (ProbabilityRange set (unfit Add sum prob))) (Ok next) = rw a at e in absurd (ok_err next (ProbabilityRange set (unfit Add sum prob)) (sym o))
+  | inr a ↦ let o : ◌≡◌ {A = Result ℚ EfgKind} (Err (ProbabilityRange set (step_of Add sum prob))) (Ok next) = rw a at e in absurd (ok_err next (ProbabilityRange set (step_of Add sum prob)) (sym o))
 ]
 
 -- and the other way round

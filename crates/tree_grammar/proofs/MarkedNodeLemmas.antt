@@ -10,7 +10,7 @@ use Rattle.file_parts.specs.Reading.{text_at, whole_at}
 use Rattle.file_parts.specs.Parsing.{Parsed, ◌>>=◌, wanted}
 use Rattle.file_parts.proofs.ReaderLemmas.{IsReader, bind_reader, pure_reader, choose, choose_reader, same_reader, token_reader, ok_err, result_of, chain}
 use Rattle.file_parts.proofs.TokenReaderLemmas.{text_reader, some_or_none}
-use Rattle.written_trees.specs.Building.{PartialTree, Branching, PartialSet, passed, Choice, with_parts}
+use Rattle.written_trees.specs.Building.{PartialTree, Branching, PartialSet, passed, UsedSet, with_parts}
 use Rattle.tree_grammar.specs.TreePieces.{is_node_word, begins_node}
 use Rattle.tree_grammar.specs.TreeParsing.{parse_set, parse_player, parse_outcome, parse_set_choice, parse_own_choice, parse_choice, parse_after, parse_next}
 use Rattle.tree_grammar.specs.declared.kinds.EfgKind.{EfgKind}
@@ -53,7 +53,7 @@ node_word_reader = token_reader node_word (record { token = Word (codes "t"); va
 
 -- ---- what follows the choice
 -- the outcome, and further nodes
-then_outcome : ℕ → ℕ → PartialTree → Branching → List Branching → Choice → List Token → Parsed EfgKind PartialTree
+then_outcome : ℕ → ℕ → PartialTree → Branching → List Branching → UsedSet → List Token → Parsed EfgKind PartialTree
 then_outcome most players partial b rest choice tokens = parse_outcome players partial.outcomes tokens >>= λ o. marked most players (with_parts partial b rest choice o.0) o.1
 
 marked_no_brace : (most players : ℕ) (partial : PartialTree) → ReadsNoBrace (marked most players partial)
@@ -72,11 +72,11 @@ marked_no_text (suc most) players partial = record { no_text = λ text rest y e.
     by [] text rest y e = ok_err y (Node, Text text ∷ rest) (sym e)
     by (b ∷ branchings) text rest y e = ok_err y (Node, Text text ∷ rest) (sym e)
 
-outcome_no_brace : (most players : ℕ) (partial : PartialTree) (b : Branching) (rest : List Branching) (choice : Choice) → ReadsNoBrace (then_outcome most players partial b rest choice)
+outcome_no_brace : (most players : ℕ) (partial : PartialTree) (b : Branching) (rest : List Branching) (choice : UsedSet) → ReadsNoBrace (then_outcome most players partial b rest choice)
 unfolding then_outcome parse_outcome whole_at
 outcome_no_brace most players partial b rest choice = record { no_brace = λ tokens y e. ok_err y (Node, Left ∷ tokens) (sym e) }
 
-outcome_no_name : (most players : ℕ) (partial : PartialTree) (b : Branching) (rest : List Branching) (choice : Choice) → ReadsNoText (then_outcome most players partial b rest choice)
+outcome_no_name : (most players : ℕ) (partial : PartialTree) (b : Branching) (rest : List Branching) (choice : UsedSet) → ReadsNoText (then_outcome most players partial b rest choice)
 unfolding then_outcome parse_outcome whole_at
 outcome_no_name most players partial b rest choice = record { no_text = λ text tokens y e. ok_err y (Node, Text text ∷ tokens) (sym e) }
 
@@ -112,7 +112,7 @@ unfolding parse_next then_outcome
 next_row most players partial b rest tokens = in_a_row (parse_choice players (length partial.nodes) partial.sets tokens) (λ c. parse_outcome players partial.outcomes c.1) (λ c o. with_parts partial b rest c o) (λ z. marked most players z)
 
 -- a player's choice, and what follows
-own_row : (players k : ℕ) (sets : List PartialSet) (tokens : List Token) (g : Choice → List Token → Parsed EfgKind PartialTree)
+own_row : (players k : ℕ) (sets : List PartialSet) (tokens : List Token) (g : UsedSet → List Token → Parsed EfgKind PartialTree)
     → (parse_own_choice players k sets tokens >>= λ c. g c.0 c.1) ≡ (parse_player players tokens >>= λ player. parse_set_choice k sets (Some player.0) player.1 >>= λ c. g c.0 c.1)
 unfolding parse_own_choice
 own_row players k sets tokens g = elim (result_of (parse_player players tokens)) [
@@ -156,7 +156,7 @@ further_is most players partial b rest room tokens = refl
 
 -- ---- readers
 -- what may follow the choice
-outcome_part : (most players : ℕ) (partial : PartialTree) (b : Branching) (rest : List Branching) → ((next : PartialTree) → IsReader (marked most players next)) → (choice : Choice) → IsReader (then_outcome most players partial b rest choice)
+outcome_part : (most players : ℕ) (partial : PartialTree) (b : Branching) (rest : List Branching) → ((next : PartialTree) → IsReader (marked most players next)) → (choice : UsedSet) → IsReader (then_outcome most players partial b rest choice)
 unfolding then_outcome
 outcome_part most players partial b rest M choice =
     outcome_part_reader players partial.outcomes (λ o. marked most players (with_parts partial b rest choice o)) (λ o. M (with_parts partial b rest choice o)) (λ o. marked_no_brace most players (with_parts partial b rest choice o)) (λ o. marked_no_text most players (with_parts partial b rest choice o))

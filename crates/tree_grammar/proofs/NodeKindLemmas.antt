@@ -6,7 +6,7 @@ use Rattle.std.proofs.lemmas.Bool.{cases_Bool}
 use Rattle.std.proofs.lemmas.Bool.Decides.{Decides-eqb}
 use Rattle.lists.proofs.ElementLemmas.{all_at}
 use Rattle.rational.specs.Rational.{ℚ, ◌+ℚ◌}
-use Rattle.frac128.specs.Steps.{AddFits, unfit}
+use Rattle.frac128.specs.Steps.{AddFits, step_of}
 use Rattle.frac128.specs.declared.steps.Op.TheVariants.{Add}
 use Rattle.game_core.specs.declared.tree.Action.{Action}
 use Rattle.game_core.specs.declared.token.Token.{Token}
@@ -136,7 +136,7 @@ differs before t r kind d e = by d.6
 -- ---- in a first list of chance
 -- a probability comes
 chance_number : (before : List Token) (t : Token) (r : List Token) (kind : EfgKind) (set : ℕ) (actions : List Action) (v : ℚ) → StopsInChances before set actions (WantsProbability actions) → NumberComes v (t ∷ r) → located_tree (before ++ t ∷ r) ≡ Err (kind, t ∷ r)
-    → (AddFits (sum_of actions) v × (kind ≡ Probability set (sum_of actions +ℚ v))) ⊎ ((AddFits (sum_of actions) v → ⊥) × (kind ≡ ProbabilityRange set (unfit Add (sum_of actions) v)))
+    → (AddFits (sum_of actions) v × (kind ≡ Probability set (sum_of actions +ℚ v))) ⊎ ((AddFits (sum_of actions) v → ⊥) × (kind ≡ ProbabilityRange set (step_of Add (sum_of actions) v)))
 chance_number before t r kind set actions v s n e =
     let used = s.0 in
     let name = s.5.0 in

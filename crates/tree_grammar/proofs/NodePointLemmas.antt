@@ -19,7 +19,7 @@ use Rattle.file_parts.proofs.TokenReaderLemmas.{wanted_faults}
 use Rattle.file_parts.proofs.ValueLemmas.{value, value_wanted}
 use Rattle.written_trees.specs.Written.{SetUse, OutcomeUse}
 use Rattle.written_trees.specs.Described.{key_of}
-use Rattle.written_trees.specs.Building.{PartialTree, PartialSet, PartialOutcome, Branching, set_place, outcome_place, use_some_set, Choice}
+use Rattle.written_trees.specs.Building.{PartialTree, PartialSet, PartialOutcome, Branching, set_place, outcome_place, use_some_set, UsedSet}
 use Rattle.tree_grammar.specs.TreeFile.{IsSetPart, IsInnerPart, IsChoicePart, IsOutcomePart}
 use Rattle.tree_grammar.proofs.PartValueLemmas.{choice_at, choice_part_at}
 use Rattle.tree_grammar.specs.TreeParsing.{is_whole, parse_own_list, parse_first_list, parse_later_list, bare_use, parse_use, parse_set, parse_player, parse_set_choice, parse_own_choice, parse_after, parse_choice, parse_first_payoffs, parse_later_payoffs, bare_outcome_use, parse_outcome_use, parse_named, parse_outcome, parse_next}
@@ -203,8 +203,8 @@ after_stops players k sets word name start tokens f e = elim (cases_Bool (bytes_
           | inr s ↦ inr (expected (codes "p") (word_passes word (codes "p") p) (λ q. ChoiceStops players sets q f.0 f.1) s)
         ]
     | inr p ↦ elim (cases_Bool (bytes_eq word (codes "t"))) [
-      | inl t ↦ let g : ◌≡◌ {A = Parsed EfgKind Choice} (Ok ((sets, (End, None)), tokens)) (Err f) = rw (c, p, t) at e in absurd (ok_err _ f g)
-      | inr t ↦ let g : ◌≡◌ {A = Parsed EfgKind Choice} (Err (Node, start)) (Err f) = rw (c, p, t) at e in node_only {X = Choice} start f g
+      | inl t ↦ let g : ◌≡◌ {A = Parsed EfgKind UsedSet} (Ok ((sets, (End, None)), tokens)) (Err f) = rw (c, p, t) at e in absurd (ok_err _ f g)
+      | inr t ↦ let g : ◌≡◌ {A = Parsed EfgKind UsedSet} (Err (Node, start)) (Err f) = rw (c, p, t) at e in node_only {X = UsedSet} start f g
     ]
   ]
 ]
@@ -215,8 +215,8 @@ after_stops players k sets word name start tokens f e = elim (cases_Bool (bytes_
 choice_stops : (players k : ℕ) (sets : List PartialSet) (tokens : List Token) (f : EfgKind × List Token) → parse_choice players k sets tokens ≡ Err f → (f.0 ≡ Node) ⊎ ChoiceStops players sets tokens f.0 f.1
 unfolding parse_choice
 choice_stops players k sets (Word word ∷ Text name ∷ tokens) f e = after_stops players k sets word name (Word word ∷ Text name ∷ tokens) tokens f e
-choice_stops players k sets (Word word ∷ tokens) f e = node_only {X = Choice} tokens f e
-choice_stops players k sets tokens f e = node_only {X = Choice} tokens f e
+choice_stops players k sets (Word word ∷ tokens) f e = node_only {X = UsedSet} tokens f e
+choice_stops players k sets tokens f e = node_only {X = UsedSet} tokens f e
 
 -- ---- an outcome
 -- the payoffs of a first use are wanted, or stop; or later ones do
@@ -290,13 +290,13 @@ abbrev pub NextStops : ℕ → PartialTree → List Token → EfgKind → List T
 NextStops players partial tokens kind rest = ChoiceStops players partial.sets tokens kind rest ⊎ AfterChoice players partial.outcomes tokens kind rest
 
 -- what is read as a choice comes first
-choice_comes : (players k : ℕ) (sets : List PartialSet) (tokens : List Token) (x : Choice × List Token) → choice_part_at players k sets tokens ≡ Some x → (set : Option SetUse) × (choice : List Token) × IsChoicePart players choice set × (tokens ≡ choice ++ x.1)
+choice_comes : (players k : ℕ) (sets : List PartialSet) (tokens : List Token) (x : UsedSet × List Token) → choice_part_at players k sets tokens ≡ Some x → (set : Option SetUse) × (choice : List Token) × IsChoicePart players choice set × (tokens ≡ choice ++ x.1)
 unfolding choice_part_at
 choice_comes players k sets tokens x e =
     let a = bind_some (choice_at players tokens) _ x e in
     let b = bind_some (use_some_set k sets a.0.0) _ x a.2 in
     let c = choice_is players tokens a.0 a.1 in
-    (a.0.0, c.0, c.1, c.2 ∙ ap (λ (z : Choice × List Token). c.0 ++ z.1) (same_Some _ _ b.2))
+    (a.0.0, c.0, c.1, c.2 ∙ ap (λ (z : UsedSet × List Token). c.0 ++ z.1) (same_Some _ _ b.2))
 
 next_stops : (players : ℕ) (partial : PartialTree) (b : Branching) (others : List Branching) (tokens : List Token) (f : EfgKind × List Token) → Keeps players partial → parse_next players partial b others tokens ≡ Err f → (f.0 ≡ Node) ⊎ NextStops players partial tokens f.0 f.1
 unfolding parse_next

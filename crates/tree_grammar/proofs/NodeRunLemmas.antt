@@ -20,7 +20,7 @@ use Rattle.file_parts.proofs.TokenLaws.{whole_again, count_again}
 use Rattle.file_parts.proofs.ValueLemmas.{value, value_some}
 use Rattle.written_trees.specs.Written.{SetUse, OutcomeUse}
 use Rattle.written_trees.specs.Described.{SetKey, key_of, IsActionList}
-use Rattle.written_trees.specs.Building.{PartialTree, PartialSet, PartialOutcome, Branching, set_place, outcome_place, repeats_actions, may_be_first, new_set, used_set, Choice, with_parts}
+use Rattle.written_trees.specs.Building.{PartialTree, PartialSet, PartialOutcome, Branching, set_place, outcome_place, repeats_actions, may_be_first, new_set, used_set, UsedSet, with_parts}
 use Rattle.tree_grammar.specs.TreeFile.{AreActions, ArePayoffs, IsSetPart, IsInnerPart, IsChoicePart, IsOutcomePart}
 use Rattle.tree_grammar.proofs.PartValueLemmas.{action_list_at, optional_at, first_list_at, later_list_at}
 use Rattle.tree_grammar.specs.TreeParsing.{parse_first_list, parse_repeated_list, bare_use, parse_use, parse_set, parse_player, parse_set_choice, parse_own_choice, parse_choice, bare_outcome_use, parse_outcome_use, parse_named, parse_outcome, parse_next}
@@ -70,7 +70,7 @@ player_is_read : (players i : ℕ) (rest : List Token) → i < players → parse
 player_is_read players i rest h = value_some (parse_player players (whole_number (suc i) ∷ rest)) (i, rest) (value_player players (whole_number (suc i) ∷ rest) ∙ player_again players i rest h)
 
 -- a choice that is read up to its set
-abbrev with_kind : Option ℕ → (List PartialSet × ℕ) × List Token → Parsed EfgKind Choice
+abbrev with_kind : Option ℕ → (List PartialSet × ℕ) × List Token → Parsed EfgKind UsedSet
 with_kind owner used = Ok ((used.0.0, (kind_of_owner owner, Some used.0.1)), used.1)
 
 inner_read : (players k : ℕ) (sets : List PartialSet) (owner : Option ℕ) (front more : List Token) (used : SetUse) → IsInnerPart players owner front used
@@ -179,7 +179,7 @@ set_passes k sets used part more rest kind all h bare less g =
 
 -- so is a choice
 choice_passes : (players k : ℕ) (sets : List PartialSet) (front more rest : List Token) (set : Option SetUse) (kind : EfgKind) → AreListed sets → IsChoicePart players front set → IsBare more → length rest < length more → GoesTo (parse_choice players k sets (front ++ more)) kind rest
-    → (x : Choice) × (parse_choice players k sets (front ++ more) ≡ Ok (x, more))
+    → (x : UsedSet) × (parse_choice players k sets (front ++ more) ≡ Ok (x, more))
 unfolding parse_choice
 choice_passes players k sets front more rest None kind all h bare less g = ((sets, (End, None)), rw h.1 refl)
 choice_passes players k sets front more rest (Some used) kind all h bare less g =

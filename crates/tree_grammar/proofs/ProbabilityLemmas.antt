@@ -14,7 +14,7 @@ use Rattle.rational.specs.Rational.{ℚ, ◌+ℚ◌, zero_ℚ, one_ℚ}
 use Rattle.rational.specs.Tests.{le_test, cmp_ℚ, sign_of}
 use Rattle.rational.proofs.Decide.{le_test-true}
 use Rattle.rational.proofs.PartLemmas.{nonneg-num, sign_nonneg}
-use Rattle.frac128.specs.Steps.{AddFits, unfit}
+use Rattle.frac128.specs.Steps.{AddFits, step_of}
 use Rattle.frac128.specs.declared.steps.Op.TheVariants.{Add}
 use Rattle.frac128.specs.declared.steps.Unfit.{Unfit}
 use Rattle.written_trees.specs.Building.{add_test}
@@ -80,6 +80,6 @@ sum_above set sum prob next one r n f o e h = rw (n, (add_test-Decides sum prob)
     by false e = refl
 
 -- nor one whose sum does not fit
-pub sum_outside : (set : ℕ) (sum prob : ℚ) (step : Unfit) → ¬ (AddFits sum prob) → step ≡ unfit Add sum prob → Err (ProbabilityRange set step) ≡ sum_with set sum prob
+pub sum_outside : (set : ℕ) (sum prob : ℚ) (step : Unfit) → ¬ (AddFits sum prob) → step ≡ step_of Add sum prob → Err (ProbabilityRange set step) ≡ sum_with set sum prob
 unfolding sum_with
 sum_outside set sum prob step f u = rw (u, test_fails (add_test sum prob) (add_test-Decides sum prob) f) refl

@@ -7,7 +7,7 @@ use Rattle.game_core.specs.declared.token.Token.TheVariants.{Text, Word}
 use Rattle.game_core.specs.Spacing.{IsShortToken}
 use Rattle.file_parts.specs.Reading.{word_at, text_at}
 use Rattle.file_parts.proofs.TokenLaws.{word_is, text_is}
-use Rattle.written_trees.specs.Building.{PartialSet, Choice}
+use Rattle.written_trees.specs.Building.{PartialSet, UsedSet}
 use Rattle.tree_grammar.specs.TreeParsing.{FrontPart, parse_front, parse_player, parse_choice}
 use Rattle.tree_grammar.proofs.FrontLaws.{front_read_is}
 use Rattle.tree_grammar.proofs.NodeLaws.{of_back}
@@ -37,5 +37,5 @@ pub player_leaves : (players : ℕ) (tokens rest : List Token) (player : ℕ) �
 player_leaves players tokens rest player e short = end_short rest tokens ((player_within players).ok tokens (player, rest) e) short
 
 -- after a choice
-pub choice_leaves : (players k : ℕ) (sets : List PartialSet) (tokens : List Token) (x : Choice × List Token) → parse_choice players k sets tokens ≡ Ok x → AreShort tokens → AreShort x.1
+pub choice_leaves : (players k : ℕ) (sets : List PartialSet) (tokens : List Token) (x : UsedSet × List Token) → parse_choice players k sets tokens ≡ Ok x → AreShort tokens → AreShort x.1
 choice_leaves players k sets tokens x e short = end_short x.1 tokens ((choice_within players k sets).ok tokens x e) short

@@ -11,7 +11,7 @@ use Rattle.file_parts.specs.Parsing.{Parsed, ◌>>=◌, wanted}
 use Rattle.file_parts.proofs.ReaderLemmas.{chain, IsReader, bind_ok, bind_err, ok_same, err_same, ok_err}
 use Rattle.file_parts.proofs.TokenReaderLemmas.{text_reader, count_reader}
 use Rattle.written_trees.specs.Written.{SetUse, OutcomeUse}
-use Rattle.written_trees.specs.Building.{PartialTree, PartialSet, PartialOutcome, Branching, set_place, outcome_place, Choice}
+use Rattle.written_trees.specs.Building.{PartialTree, PartialSet, PartialOutcome, Branching, set_place, outcome_place, UsedSet}
 use Rattle.tree_grammar.specs.TreeParsing.{is_whole, parse_first_list, parse_repeated_list, parse_later_list, bare_use, parse_use, parse_set, parse_player, parse_set_choice, parse_own_choice, parse_after, parse_choice, parse_first_payoffs, parse_repeated_payoffs, parse_later_payoffs, bare_outcome_use, parse_outcome_use, parse_named, parse_outcome, parse_next}
 use Rattle.tree_grammar.specs.declared.kinds.EfgKind.{EfgKind}
 use Rattle.tree_grammar.specs.declared.kinds.EfgKind.TheVariants.{Node, UnknownPlayer}
@@ -165,7 +165,7 @@ after_within players k sets word start = by (bytes_eq word (codes "c")) (bytes_e
     by false false true = from (λ tokens. Ok ((sets, (End, None)), tokens)) (pure_within (sets, (End, None)))
     by false false false = record {
       ok = λ tokens x e. absurd (ok_err x (Node, start) (sym e));
-      err = λ tokens f h e. ([], ap (λ (z : EfgKind × List Token). z.1) (err_same {A = Choice × List Token} (Node, start) f e));
+      err = λ tokens f h e. ([], ap (λ (z : EfgKind × List Token). z.1) (err_same {A = UsedSet × List Token} (Node, start) f e));
     }
 
 -- a word

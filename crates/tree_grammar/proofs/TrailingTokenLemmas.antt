@@ -13,7 +13,7 @@ use Rattle.file_parts.specs.Reading.{whole_at, optional_text_at, opens, count_at
 use Rattle.file_parts.specs.Parsing.{Parsed, ◌>>=◌, wanted}
 use Rattle.file_parts.proofs.ReaderLemmas.{chain, IsReader, bind_ok, ok_same, err_same, ok_err}
 use Rattle.written_trees.specs.Written.{SetUse, OutcomeUse}
-use Rattle.written_trees.specs.Building.{PartialTree, PartialSet, PartialOutcome, Branching, root_alone, set_place, outcome_place, Choice}
+use Rattle.written_trees.specs.Building.{PartialTree, PartialSet, PartialOutcome, Branching, root_alone, set_place, outcome_place, UsedSet}
 use Rattle.tree_grammar.specs.TreePieces.{begins_node}
 use Rattle.tree_grammar.specs.TreeParsing.{is_whole, has_text, parse_first_list, parse_repeated_list, parse_later_list, bare_use, parse_use, parse_set, parse_player, parse_set_choice, parse_own_choice, parse_after, parse_choice, parse_payoffs_end, parse_first_payoffs, parse_same_payoffs, parse_repeated_payoffs, parse_later_payoffs, bare_outcome_use, parse_outcome_use, parse_named, parse_outcome, parse_next, parse_front}
 use Rattle.tree_grammar.specs.TreeFaults.{IsFile}
@@ -140,11 +140,11 @@ unfolding parse_own_choice
 own_choice_on players k sets = bind_on (parse_player players) (λ player tokens. parse_set_choice k sets (Some player) tokens) (player_on players) (λ player. set_choice_on k sets (Some player)) (λ player. set_choice_within k sets (Some player))
 
 -- what follows the word and the name of a node, which may begin at another place
-after_on : (players k : ℕ) (sets : List PartialSet) (word : List ℕ) (start other a : List Token) (x : Choice × List Token) (kind : EfgKind) (t : Token) (r : List Token) → parse_after players k sets word start a ≡ Ok x → GoesTo (parse_after players k sets word other (a ++ t ∷ r)) kind (t ∷ r)
+after_on : (players k : ℕ) (sets : List PartialSet) (word : List ℕ) (start other a : List Token) (x : UsedSet × List Token) (kind : EfgKind) (t : Token) (r : List Token) → parse_after players k sets word start a ≡ Ok x → GoesTo (parse_after players k sets word other (a ++ t ∷ r)) kind (t ∷ r)
     → parse_after players k sets word other (a ++ t ∷ r) ≡ Ok (x.0, x.1 ++ t ∷ r)
 after_on players k sets word start other a x kind t r = by (bytes_eq word (codes "c")) (bytes_eq word (codes "p")) (bytes_eq word (codes "t"))
   where
-    reading : (c p t : Bool) → List Token → List Token → Parsed EfgKind Choice
+    reading : (c p t : Bool) → List Token → List Token → Parsed EfgKind UsedSet
     reading c p t from tokens = if c then parse_set_choice k sets None tokens else if p then parse_own_choice players k sets tokens else if t then Ok ((sets, (End, None)), tokens) else Err (Node, from)
 
     by : (c p w : Bool) → reading c p w start a ≡ Ok x → GoesTo (reading c p w other (a ++ t ∷ r)) kind (t ∷ r) → reading c p w other (a ++ t ∷ r) ≡ Ok (x.0, x.1 ++ t ∷ r)
@@ -157,7 +157,7 @@ choice_on : (players k : ℕ) (sets : List PartialSet) → ReadsOn (parse_choice
 unfolding parse_choice
 choice_on players k sets = record { on = by }
   where
-    by : (a : List Token) (x : Choice × List Token) (kind : EfgKind) (t : Token) (r : List Token) → parse_choice players k sets a ≡ Ok x → GoesTo (parse_choice players k sets (a ++ t ∷ r)) kind (t ∷ r) → parse_choice players k sets (a ++ t ∷ r) ≡ Ok (x.0, x.1 ++ t ∷ r)
+    by : (a : List Token) (x : UsedSet × List Token) (kind : EfgKind) (t : Token) (r : List Token) → parse_choice players k sets a ≡ Ok x → GoesTo (parse_choice players k sets (a ++ t ∷ r)) kind (t ∷ r) → parse_choice players k sets (a ++ t ∷ r) ≡ Ok (x.0, x.1 ++ t ∷ r)
     by (Word word ∷ Text name ∷ a) x kind t r e g = after_on players k sets word (Word word ∷ Text name ∷ a) (Word word ∷ Text name ∷ (a ++ t ∷ r)) a x kind t r e g
     by a x kind t r e g = absurd (ok_err x _ (sym e))
 

@@ -5,7 +5,7 @@ use Rattle.std.specs.Prelude.{Ok, Err}
 use Rattle.std.specs.List.{position_or_len}
 use Rattle.rational.specs.Rational.{ℚ, ◌+ℚ◌, zero_ℚ, one_ℚ}
 use Rattle.rational.specs.Tests.{le_test, eq_ℚ}
-use Rattle.frac128.specs.Steps.{unfit}
+use Rattle.frac128.specs.Steps.{step_of}
 use Rattle.frac128.specs.declared.steps.Op.TheVariants.{Add}
 use Rattle.game_core.specs.declared.tree.Action.{Action}
 use Rattle.game_core.specs.declared.token.Token.{Token}
@@ -62,8 +62,8 @@ sum_value set sum prob = elim (cases_Bool (add_test sum prob)) [
     | inr b ↦ inr (rw (a, b) refl, Probability set (sum +ℚ prob), rw (a, b) refl)
   ]
   | inr a ↦ elim (cases_Bool (le_test zero_ℚ prob)) [
-    | inl b ↦ inr (rw (a, b) refl, ProbabilityRange set (unfit Add sum prob), rw a refl)
-    | inr b ↦ inr (rw b refl, ProbabilityRange set (unfit Add sum prob), rw a refl)
+    | inl b ↦ inr (rw (a, b) refl, ProbabilityRange set (step_of Add sum prob), rw a refl)
+    | inr b ↦ inr (rw b refl, ProbabilityRange set (step_of Add sum prob), rw a refl)
   ]
 ]
 

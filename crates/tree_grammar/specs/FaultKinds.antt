@@ -2,7 +2,7 @@
 use Rattle.std.specs.Prelude.{ℕ, ◌≤◌, ◌≡◌, ◌≢◌, ◌⊎◌, List, [], ◌∷◌, length, None}
 use Rattle.rational.specs.Rational.{ℚ, ◌+ℚ◌}
 use Rattle.rational.specs.Sum.{sum_to}
-use Rattle.frac128.specs.Steps.{AddFits, unfit}
+use Rattle.frac128.specs.Steps.{AddFits, step_of}
 use Rattle.frac128.specs.declared.steps.Op.TheVariants.{Add}
 use Rattle.game_core.specs.declared.tree.Action.{Action}
 use Rattle.game_core.specs.Tree.{probability_at}
@@ -17,12 +17,15 @@ use Rattle.tree_grammar.specs.declared.kinds.EfgKind.{EfgKind}
 use Rattle.tree_grammar.specs.declared.kinds.EfgKind.TheVariants.{Header, Players, Node, UnknownPlayer, SetMismatch, Probability, ProbabilityRange, OutcomeMismatch, Unfinished, Trailing}
 
 -- ---- what comes
+-- the number v comes
 abbrev pub NumberComes : ℚ → List Token → Type 0
 NumberComes v rest = (more : List Token) × (rest ≡ Number v ∷ more)
 
+-- a text comes
 abbrev pub TextComes : List Token → Type 0
 TextComes rest = (text : List ℕ) × (more : List Token) × (rest ≡ Text text ∷ more)
 
+-- a closing brace comes
 abbrev pub BraceComes : List Token → Type 0
 BraceComes rest = (more : List Token) × (rest ≡ Right ∷ more)
 
@@ -68,7 +71,7 @@ IsNodeKind UnknownPlayer before rest = StopsAtPlayer before × WholeComes rest
 IsNodeKind SetMismatch before rest = LacksList before rest ⊎ DiffersFromFirst before rest
 IsNodeKind (Probability label sum) before rest = SumsTo before rest label sum
 IsNodeKind (ProbabilityRange label step) before rest = (actions : List Action) × (v : ℚ)
-    × StopsInChances before label actions (WantsProbability actions) × NumberComes v rest × ¬ (AddFits (sum_of actions) v) × (step ≡ unfit Add (sum_of actions) v)
+    × StopsInChances before label actions (WantsProbability actions) × NumberComes v rest × ¬ (AddFits (sum_of actions) v) × (step ≡ step_of Add (sum_of actions) v)
 IsNodeKind OutcomeMismatch before rest = PaysOtherwise before rest
 IsNodeKind _ before rest = ⊥
 

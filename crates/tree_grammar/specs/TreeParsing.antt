@@ -6,7 +6,7 @@ use Rattle.std.specs.Str.{bytes_eq}
 use mathlib.Core.Logic.{inl, inr}
 use Rattle.rational.specs.Rational.{ℚ, ◌+ℚ◌, zero_ℚ, one_ℚ}
 use Rattle.rational.specs.Tests.{le_test, eq_ℚ}
-use Rattle.frac128.specs.Steps.{unfit}
+use Rattle.frac128.specs.Steps.{step_of}
 use Rattle.frac128.specs.declared.steps.Op.TheVariants.{Add}
 use Rattle.game_core.specs.declared.too_large.What.{What}
 use Rattle.game_core.specs.declared.tree.Action.{Action}
@@ -18,20 +18,22 @@ use Rattle.game_core.specs.declared.token.Token.TheVariants.{Right, Text, Number
 use Rattle.file_parts.specs.Reading.{left_at, right_at, text_at, word_at, number_at, after_text, whole_at, optional_text_at, texts_at, payoff_start, opens, ends, count_at}
 use Rattle.file_parts.specs.Parsing.{Parsed, ◌>>=◌, wanted, passed, parse_each, parse_names, parse_title}
 use Rattle.written_trees.specs.Written.{SetUse, OutcomeUse}
-use Rattle.written_trees.specs.Building.{PartialTree, PartialSet, PartialOutcome, Branching, root_alone, tree_so_far, Choice, with_parts, passed as limit_passed, set_place, outcome_place, add_test, new_set, used_set, new_outcome, used_outcome}
+use Rattle.written_trees.specs.Building.{PartialTree, PartialSet, PartialOutcome, Branching, root_alone, tree_so_far, UsedSet, with_parts, passed as limit_passed, set_place, outcome_place, add_test, new_set, used_set, new_outcome, used_outcome}
 use Rattle.tree_grammar.specs.TreePieces.{closed_at, begins_node}
 use Rattle.tree_grammar.specs.declared.kinds.EfgKind.{EfgKind}
 use Rattle.tree_grammar.specs.declared.kinds.EfgKind.TheVariants.{Header, Players, Node, UnknownPlayer, SetMismatch, Probability, ProbabilityRange, OutcomeMismatch, Unfinished, Trailing}
 
--- whether these come
+-- whether a closing brace comes
 abbrev pub closes : List Token → Bool
 closes (Right ∷ rest) = true
 closes _ = false
 
+-- whether a text comes
 abbrev pub has_text : List Token → Bool
 has_text (Text text ∷ rest) = true
 has_text _ = false
 
+-- whether a number comes
 abbrev pub has_number : List Token → Bool
 has_number (Number value ∷ rest) = true
 has_number _ = false
@@ -41,7 +43,7 @@ has_number _ = false
 unfoldable pub sum_with : ℕ → ℚ → ℚ → Result ℚ EfgKind
 sum_with set sum prob =
     if add_test sum prob then (if le_test zero_ℚ prob && le_test (sum +ℚ prob) one_ℚ then Ok (sum +ℚ prob) else Err (Probability set (sum +ℚ prob)))
-    else Err (ProbabilityRange set (unfit Add sum prob))
+    else Err (ProbabilityRange set (step_of Add sum prob))
 
 -- a kind of fault at these tokens
 abbrev pub at_tokens : {X : Type 0} → List Token → Result X EfgKind → Result X (EfgKind × List Token)
@@ -65,18 +67,20 @@ parse_closed count tokens = passed Node tokens (closed_at count tokens)
 abbrev pub own_action : List ℕ → Action
 own_action name = record { name = name; prob = zero_ℚ }
 
--- the actions of a player, and of chance in the set with this number
+-- the actions of a player
 unfoldable pub parse_own_list : List Token → Parsed EfgKind (List Action)
 parse_own_list tokens = do
   rest ← parse_closed (length (texts_at tokens).0) (texts_at tokens).1
   Ok (map own_action (texts_at tokens).0, rest.1)
 
+-- the actions of chance in the set with this number
 unfoldable pub parse_chance_list : ℕ → List Token → Parsed EfgKind (List Action)
 parse_chance_list set tokens = do
   actions ← parse_chances set zero_ℚ tokens
   rest ← parse_closed (length actions.0.0) actions.1
   if eq_ℚ actions.0.1 one_ℚ then Ok (actions.0.0, rest.1) else Err (Probability set actions.0.1, actions.1)
 
+-- the actions of this owner in the set with this number
 abbrev pub parse_list_of : Option ℕ → ℕ → List Token → Parsed EfgKind (List Action)
 parse_list_of None set tokens = parse_chance_list set tokens
 parse_list_of (Some i) set tokens = parse_own_list tokens
@@ -92,6 +96,7 @@ abbrev pub parse_same : ℚ → List Token → Parsed EfgKind (Unit {0})
 parse_same prob (Number value ∷ rest) = if eq_ℚ value prob then Ok (tt, rest) else Err (SetMismatch, Number value ∷ rest)
 parse_same prob tokens = Err (Node, tokens)
 
+-- the probability that repeats this one where chance is the owner; a player's action has none
 abbrev pub parse_probability : Option ℕ → ℚ → List Token → Parsed EfgKind (Unit {0})
 parse_probability None prob tokens = parse_same prob tokens
 parse_probability (Some i) prob tokens = Ok (tt, tokens)
@@ -116,10 +121,11 @@ parse_repeated_list owner actions tokens = do
   following ← parse_all_repeated owner actions inner.1
   passed (if has_text following.1 then SetMismatch else Node) following.1 (right_at following.1)
 
--- a list that may come
+-- a list that may be left out
 abbrev pub parse_optional : (List Token → Parsed EfgKind (Unit {0})) → List Token → Parsed EfgKind (Unit {0})
 parse_optional parse tokens = if opens tokens then parse tokens else Ok (tt, tokens)
 
+-- a later list of actions, which may be left out
 abbrev pub parse_later_list : Option ℕ → List Action → List Token → Parsed EfgKind (Unit {0})
 parse_later_list owner actions tokens = parse_optional (parse_repeated_list owner actions) tokens
 
@@ -187,6 +193,7 @@ parse_repeated_payoffs payoffs tokens = do
   following ← parse_same_payoffs 0 payoffs inner.1
   parse_payoffs_end following.1
 
+-- payoffs of a later use, which may be left out
 abbrev pub parse_later_payoffs : List ℚ → List Token → Parsed EfgKind (Unit {0})
 parse_later_payoffs payoffs tokens = parse_optional (parse_repeated_payoffs payoffs) tokens
 
@@ -216,25 +223,27 @@ parse_outcome players outcomes tokens = do
   if nat_eq label.0 0 then Ok ((outcomes, None), label.1) else parse_named players label.0 outcomes label.1
 
 -- ---- nodes
--- who chooses at node k, and the sets with the one that it uses
-unfoldable pub parse_set_choice : ℕ → List PartialSet → Option ℕ → List Token → Parsed EfgKind Choice
+-- chance or a player who chooses at node k, and the sets with the one that it uses
+unfoldable pub parse_set_choice : ℕ → List PartialSet → Option ℕ → List Token → Parsed EfgKind UsedSet
 parse_set_choice k sets owner tokens = do
   used ← parse_set k sets owner tokens
   Ok ((used.0.0, (kind_of_owner owner, Some used.0.1)), used.1)
 
-unfoldable pub parse_own_choice : ℕ → ℕ → List PartialSet → List Token → Parsed EfgKind Choice
+-- a player who chooses at node k, and the sets with the one that it uses
+unfoldable pub parse_own_choice : ℕ → ℕ → List PartialSet → List Token → Parsed EfgKind UsedSet
 parse_own_choice players k sets tokens = do
   player ← parse_player players tokens
   parse_set_choice k sets (Some player.0) player.1
 
 -- what follows the word of a node, and its name
-abbrev pub parse_after : ℕ → ℕ → List PartialSet → List ℕ → List Token → List Token → Parsed EfgKind Choice
+abbrev pub parse_after : ℕ → ℕ → List PartialSet → List ℕ → List Token → List Token → Parsed EfgKind UsedSet
 parse_after players k sets word start tokens =
     if bytes_eq word (codes "c") then parse_set_choice k sets None tokens
     else if bytes_eq word (codes "p") then parse_own_choice players k sets tokens
     else if bytes_eq word (codes "t") then Ok ((sets, (End, None)), tokens) else Err (Node, start)
 
-unfoldable pub parse_choice : ℕ → ℕ → List PartialSet → List Token → Parsed EfgKind Choice
+-- what a node begins with: its word, its name, and who chooses there
+unfoldable pub parse_choice : ℕ → ℕ → List PartialSet → List Token → Parsed EfgKind UsedSet
 parse_choice players k sets tokens = do
   word ← wanted Node tokens (word_at tokens)
   name ← wanted Node word.1 (text_at word.1)
@@ -245,6 +254,7 @@ abbrev pub grown_at : PartialTree → Kind → Option ℕ → Option ℕ → Lis
 grown_at partial kind set outcome [] = None
 grown_at partial kind set outcome (b ∷ rest) = Some (with_parts partial b rest (partial.sets, (kind, set)) (partial.outcomes, outcome))
 
+-- the tree with this node at its first open branch, where it has one
 abbrev pub grown : PartialTree → Kind → Option ℕ → Option ℕ → Option PartialTree
 grown partial kind set outcome = grown_at partial kind set outcome partial.branchings
 
@@ -289,6 +299,7 @@ parse_nodes (suc most) players partial tokens = if is_whole partial then Ok (par
 abbrev pub FrontPart : Type 0
 FrontPart = List ℕ × List (List ℕ)
 
+-- the front of a file, after which a text may come
 unfoldable pub parse_front : List Token → Parsed EfgKind FrontPart
 parse_front tokens = do
   title ← parse_title Header (codes "EFG") 2 tokens

@@ -14,6 +14,7 @@ closed_at count tokens = right_at tokens >>= λ rest. if nat_le 1 count then Som
 abbrev pub is_node_word : List ℕ → Bool
 is_node_word word = bytes_eq word (codes "c") || (bytes_eq word (codes "p") || bytes_eq word (codes "t"))
 
+-- whether a node begins here
 abbrev pub begins_node : List Token → Bool
 begins_node (Word word ∷ rest) = is_node_word word
 begins_node _ = false

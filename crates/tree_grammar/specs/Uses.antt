@@ -11,6 +11,7 @@ use Rattle.tree_grammar.specs.declared.outcomes.Outcomes.TheInside.{Inside as Ke
 abbrev pub partial_set : KeptSet → PartialSet
 partial_set set = record { owner = set.owner; label = set.label; name = set.name; actions = set.actions.items; members = set.members.items }
 
+-- the sets, as far as they were used
 abbrev pub partial_sets : KeptSets → List PartialSet
 partial_sets sets = map partial_set sets.list.items
 
@@ -22,6 +23,7 @@ pub record AreSets (sets : KeptSets) : Type 0 where
 abbrev pub partial_outcome : KeptOutcome → PartialOutcome
 partial_outcome outcome = record { label = outcome.label; name = outcome.name; payoffs = outcome.payoffs.items }
 
+-- the outcomes, as far as they were used
 abbrev pub partial_outcomes : KeptOutcomes → List PartialOutcome
 partial_outcomes outcomes = map partial_outcome outcomes.list.items
 

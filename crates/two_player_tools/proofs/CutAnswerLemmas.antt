@@ -23,7 +23,7 @@ use Rattle.refusals.specs.declared.refusal.Refusal.{Refusal}
 use Rattle.two_player_tools.specs.EquilibriumEntries.{AreOfEquilibrium}
 use Rattle.two_player_tools.specs.Lcp.{plans_at}
 use Rattle.two_player_tools.specs.Lp.{Solution, solution, solution_in}
-use Rattle.two_player_tools.specs.Perfect.{cut_in, entries_by, in_subgame, payoffs_of, plans_by, worth_refusal}
+use Rattle.two_player_tools.specs.Perfect.{cut_entries_in, entries_by, in_subgame, node_payoffs_fit, plans_by, worth_refusal}
 use Rattle.two_player_tools.specs.TwoPlayers.{form_of_tree, rows_by}
 use Rattle.two_player_tools.specs.declared.forms.Method.{Method}
 use Rattle.two_player_tools.specs.declared.forms.Method.TheVariants.{LinearProgram, Complementarity}
@@ -62,19 +62,19 @@ entries_by-equilibrium Complementarity t list laws w (f, k, (plans, (p, problem,
 
 -- ---- cuts
 -- what entries pay
-payoffs_of-single : (t : GameTree) (entries : List ℚ) → TreesAreGames → IsGameTree t → IsSingle (payoffs_of t entries)
-payoffs_of-single t entries laws w one other h k =
+node_payoffs_fit-single : (t : GameTree) (entries : List ℚ) → TreesAreGames → IsGameTree t → IsSingle (node_payoffs_fit t entries)
+node_payoffs_fit-single t entries laws w one other h k =
     let g = game_of_tree t in
     let tree = laws.game_tree t w in
     let alike = entries-alike g h.0 k.0 tree (sym h.1 ∙ k.1) in
     refused_by-single (λ stop. payoffs_stop.Range stop.0 stop.1) _ (all_fit-single (λ i. now_steps_at g k.0 i 0) (range_with_len 0 g.players)) one other (behaviour_payoffs-alike g h.0 k.0 tree alike one h.2) k.2
 
 -- the answer in a cut
-pub cut_in-single : (method : Method) (n : ℕ) (cut : MadeCut) → TreesAreGames → RecallsAreSingle → IsGameTree cut.tree → IsSingle (cut_in method n cut)
-cut_in-single method n cut laws recalls w =
-    let paid = λ (entries : List ℚ). by_case (n ≡ 0) (only {E = Refusal} tt) (refused_by (worth_refusal n) (payoffs_of cut.tree entries)) in
+pub cut_entries_in-single : (method : Method) (n : ℕ) (cut : MadeCut) → TreesAreGames → RecallsAreSingle → IsGameTree cut.tree → IsSingle (cut_entries_in method n cut)
+cut_entries_in-single method n cut laws recalls w =
+    let paid = λ (entries : List ℚ). by_case (n ≡ 0) (only {E = Refusal} tt) (refused_by (worth_refusal n) (node_payoffs_fit cut.tree entries)) in
     bind-single (refused_by (in_subgame n cut.nodes) (entries_by method cut.tree)) (λ entries. paid entries >> only entries)
     (refused_by-single (in_subgame n cut.nodes) (entries_by method cut.tree) (entries_by-single method cut.tree laws recalls w))
     (λ entries _. bind-single (paid entries) (λ _. only entries)
-    (by_case-single (n ≡ 0) (only tt) (refused_by (worth_refusal n) (payoffs_of cut.tree entries)) (λ _. only-single tt) (λ _. refused_by-single (worth_refusal n) (payoffs_of cut.tree entries) (payoffs_of-single cut.tree entries laws w)))
+    (by_case-single (n ≡ 0) (only tt) (refused_by (worth_refusal n) (node_payoffs_fit cut.tree entries)) (λ _. only-single tt) (λ _. refused_by-single (worth_refusal n) (node_payoffs_fit cut.tree entries) (node_payoffs_fit-single cut.tree entries laws w)))
     (λ _ _. only-single entries))

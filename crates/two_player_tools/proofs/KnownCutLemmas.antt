@@ -29,7 +29,7 @@ use Rattle.verdicts.proofs.AlikeBehaviourLemmas.{AreAlike, tree_entries-alike, v
 use Rattle.refusals.specs.declared.refusal.Refusal.{Refusal}
 use Rattle.refusals.specs.declared.refusal.Refusal.TheVariants as refusal
 use Rattle.two_player_tools.specs.KnownCuts.{AreKeptTo, AreSolvedFrom, IsRoomFor, behaviour_in, lists_of, worth_in}
-use Rattle.two_player_tools.specs.Perfect.{IsSolvedAt, IsStoppedAt, cut_in, entries_by, in_subgame, payoffs_of, perfect_in, worth_refusal}
+use Rattle.two_player_tools.specs.Perfect.{IsSolvedAt, IsStoppedAt, cut_entries_in, entries_by, in_subgame, node_payoffs_fit, perfect_in, worth_refusal}
 use Rattle.two_player_tools.specs.declared.forms.Method.{Method}
 use Rattle.two_player_tools.specs.declared.perfect.Known.{Known}
 
@@ -88,18 +88,18 @@ module _ (t : GameTree) (root : ℕ) (worth new_worth : ℕ → ℕ → ℚ) (b 
       record {
         cut = cut;
         is_cut = same_worth t n worth new_worth cut.nodes cut.sets cut.tree (agree n (omega (arith, later))) old.is_cut;
-        solved = subst (λ entries. cut_in method n cut (Ok entries)) (tree_entries-alike (game_of_tree cut.tree) (cut_behaviour cut.sets b) (cut_behaviour cut.sets new_b) w alike) old.solved;
+        solved = subst (λ entries. cut_entries_in method n cut (Ok entries)) (tree_entries-alike (game_of_tree cut.tree) (cut_behaviour cut.sets b) (cut_behaviour cut.sets new_b) w alike) old.solved;
         worth_is = λ other i l. h.as_before n i l (λ same. omega (arith, same, later)) ∙ old.worth_is other i l ∙ value-alike (game_of_tree cut.tree) (cut_behaviour cut.sets b) (cut_behaviour cut.sets new_b) w alike i 0 w.some_node;
       }
 
   -- the cut is solved
-  pub root-solved : (method : Method) → cut_in method root made (Ok (tree_entries (game_of_tree made.tree) found)) → (root ≢ 0 → (i : ℕ) → i < length t.players → new_worth root i ≡ payoff (game_of_tree made.tree) found i) → IsSolvedAt method t new_worth new_b root
+  pub root-solved : (method : Method) → cut_entries_in method root made (Ok (tree_entries (game_of_tree made.tree) found)) → (root ≢ 0 → (i : ℕ) → i < length t.players → new_worth root i ≡ payoff (game_of_tree made.tree) found i) → IsSolvedAt method t new_worth new_b root
   root-solved method solved pays =
       let w = h.trees made.tree h.is_cut.is_cut.is_tree in
       record {
         cut = made;
         is_cut = same_worth t root worth new_worth made.nodes made.sets made.tree (agree root (omega arith)) h.is_cut;
-        solved = subst (λ entries. cut_in method root made (Ok entries)) (tree_entries-alike (game_of_tree made.tree) found (cut_behaviour made.sets new_b) w h.at_cut) solved;
+        solved = subst (λ entries. cut_entries_in method root made (Ok entries)) (tree_entries-alike (game_of_tree made.tree) found (cut_behaviour made.sets new_b) w h.at_cut) solved;
         worth_is = λ other i l. pays other i l ∙ value-alike (game_of_tree made.tree) found (cut_behaviour made.sets new_b) w h.at_cut i 0 w.some_node;
       }
 
@@ -220,7 +220,7 @@ module _ (method : Method) (t : GameTree) (root : ℕ) (known new : Known) (made
     }
 
     -- where later cuts are solved, this one and they are
-    pub solved-next : cut_in method root made (Ok (tree_entries (game_of_tree made.tree) found)) → AreSolvedFrom method t (root + 1) known → AreSolvedFrom method t root new
+    pub solved-next : cut_entries_in method root made (Ok (tree_entries (game_of_tree made.tree) found)) → AreSolvedFrom method t (root + 1) known → AreSolvedFrom method t root new
     solved-next solved later = record {
       room = record {
         worth = row.as_many ∙ later.room.worth;
@@ -263,22 +263,22 @@ pub perfect-all : (method : Method) (t : GameTree) (known : Known) (entries : Li
 perfect-all method t known entries h e = (worth_in t known, behaviour_in known, (λ n below begins. h.solved n (omega arith) below begins), e)
 
 -- where a cut has no behaviour, its refusal is told of the tree
-pub cut-unsolved : (method : Method) (n : ℕ) (cut : MadeCut) (r : Refusal) → Gives refusal.Memory (entries_by method cut.tree) (Err r) → Gives refusal.Memory (cut_in method n cut) (Err (in_subgame n cut.nodes r))
+pub cut-unsolved : (method : Method) (n : ℕ) (cut : MadeCut) (r : Refusal) → Gives refusal.Memory (entries_by method cut.tree) (Err r) → Gives refusal.Memory (cut_entries_in method n cut) (Err (in_subgame n cut.nodes r))
 cut-unsolved method n cut r (inl memory) = inl (ap (in_subgame n cut.nodes) memory)
 cut-unsolved method n cut r (inr h) = inr (inl (r, h, refl))
 
 -- where it is not computed what a cut is worth, that is told
-pub cut-unpaid : (method : Method) (n : ℕ) (cut : MadeCut) (entries : List ℚ) (r : Refusal) → entries_by method cut.tree (Ok entries) → n ≢ 0 → Gives refusal.Memory (refused_by (worth_refusal n) (payoffs_of cut.tree entries)) (Err r) → Gives refusal.Memory (cut_in method n cut) (Err r)
+pub cut-unpaid : (method : Method) (n : ℕ) (cut : MadeCut) (entries : List ℚ) (r : Refusal) → entries_by method cut.tree (Ok entries) → n ≢ 0 → Gives refusal.Memory (refused_by (worth_refusal n) (node_payoffs_fit cut.tree entries)) (Err r) → Gives refusal.Memory (cut_entries_in method n cut) (Err r)
 cut-unpaid method n cut entries r h other (inl memory) = inl memory
 cut-unpaid method n cut entries r h other (inr g) = inr (inr (entries, h, inl (inr (other, g))))
 
 -- a cut is solved
-pub cut-done : (method : Method) (n : ℕ) (cut : MadeCut) (entries : List ℚ) → entries_by method cut.tree (Ok entries) → (n ≡ 0) ⊎ ((n ≢ 0) × payoffs_of cut.tree entries (Ok tt)) → cut_in method n cut (Ok entries)
+pub cut-done : (method : Method) (n : ℕ) (cut : MadeCut) (entries : List ℚ) → entries_by method cut.tree (Ok entries) → (n ≡ 0) ⊎ ((n ≢ 0) × node_payoffs_fit cut.tree entries (Ok tt)) → cut_entries_in method n cut (Ok entries)
 cut-done method n cut entries h (inl root) = (entries, h, (tt, inl (root, refl), refl))
 cut-done method n cut entries h (inr later) = (entries, h, (tt, inr (later.0, later.1), refl))
 
 -- why the cut at a node is not solved
-pub cut-stop : (method : Method) (t : GameTree) (root : ℕ) (worth : ℕ → ℕ → ℚ) (made : MadeCut) (r : Refusal) → IsCutAt t root worth made.nodes made.sets made.tree → Gives refusal.Memory (cut_in method root made) (Err r) → (r ≡ refusal.Memory) ⊎ IsStoppedAt method t worth root r
+pub cut-stop : (method : Method) (t : GameTree) (root : ℕ) (worth : ℕ → ℕ → ℚ) (made : MadeCut) (r : Refusal) → IsCutAt t root worth made.nodes made.sets made.tree → Gives refusal.Memory (cut_entries_in method root made) (Err r) → (r ≡ refusal.Memory) ⊎ IsStoppedAt method t worth root r
 cut-stop method t root worth made r is_cut (inl memory) = inl memory
 cut-stop method t root worth made r is_cut (inr h) = inr (record { cut = made; is_cut = is_cut; stops = h })
 

@@ -2,7 +2,7 @@
 use Rattle.std.proofs.Common.{Bool, true, false, [], ◌++◌}
 use Rattle.answers.specs.Answers.{IsSingle, ◌>>=◌, only, refuse_where, refused_by}
 use Rattle.answers.proofs.AnswerLemmas.{bind-single, only-single, refuse_where-single, refused_by-single}
-use Rattle.frac128.specs.Steps.{AddFits, unfit}
+use Rattle.frac128.specs.Steps.{AddFits, step_of}
 use Rattle.frac128.specs.declared.steps.Op.TheVariants.{Add}
 use Rattle.game_theory.specs.Lines.{line_text}
 use Rattle.game_core.specs.declared.game.Game.{Game}
@@ -44,7 +44,7 @@ solution_in-single f w =
 prices_in-single : (prices : Bool) (f : FormData) (s : Solution) → IsSingle (prices_in prices f s)
 prices_in-single false f s = only-single []
 prices_in-single true f s =
-    bind-single (refuse_where (¬ (AddFits (first_price s) f.least_one)) (refusal.Range site.Value (unfit Add (first_price s) f.least_one))) (λ _. only (prices_text f s))
+    bind-single (refuse_where (¬ (AddFits (first_price s) f.least_one)) (refusal.Range site.Value (step_of Add (first_price s) f.least_one))) (λ _. only (prices_text f s))
     (refuse_where-single _ _) (λ _ _. only-single (prices_text f s))
 
 solution_text-single : (strategic prices : Bool) (game : Game) (f : FormData) (s : Solution) → IsSingle (solution_text strategic prices game f s)

@@ -23,7 +23,7 @@ use Rattle.sequence_form.proofs.FormLemmas.{tree_form-is}
 use Rattle.sequence_form.proofs.Laws.{table_stands, tree_stands}
 use Rattle.zero_sum_lp.specs.Parts.{IsProgram, Program, first_prices, first_raw, second_prices, second_raw}
 use Rattle.zero_sum_lp.specs.PlanPairs.{PlanPair}
-use Rattle.zero_sum_lp.specs.PlanStops.{IsCutPlan, IsRaisedPlan, plan_in}
+use Rattle.zero_sum_lp.specs.PlanStops.{IsRaisedPlan, IsTrimmedPlan, plan_in}
 use Rattle.zero_sum_lp.specs.ValueLaws.{IsProgramOfForm}
 use Rattle.zero_sum_lp.proofs.FormLaws.{programs_of_forms}
 use Rattle.zero_sum_lp.proofs.ValueLemmas.{plans_prove, plans_solve_tables, plans_solve_trees}
@@ -83,7 +83,7 @@ module _ (f : FormData) (p o : Program) (plans : PlanPair) (h : IsSolving f p o 
   weighted : HaveAllWeights f plans
   weighted = record {
     one_has_all = ap (λ (v : PlanPair). length v.one) are ∙ plan-long (IsRaisedPlan (side_of o.first) (first_raw o)) _ pair.one h.planned.1 (λ plan is. is.0) ∙ ap (λ (d : SideData). sequences (side_of d)) (first-same f p o plans h) ∙ sym h.valid.first_is.sequences_are;
-    two_has_all = ap (λ (v : PlanPair). length v.two) are ∙ plan-long (IsCutPlan (side_of o.second) (second_raw o)) _ pair.two h.planned.2.1 (λ plan is. is.0) ∙ ap (λ (d : SideData). sequences (side_of d)) (second-same f p o plans h) ∙ sym h.valid.second_is.sequences_are;
+    two_has_all = ap (λ (v : PlanPair). length v.two) are ∙ plan-long (IsTrimmedPlan (side_of o.second) (second_raw o)) _ pair.two h.planned.2.1 (λ plan is. is.0) ∙ ap (λ (d : SideData). sequences (side_of d)) (second-same f p o plans h) ∙ sym h.valid.second_is.sequences_are;
   }
 
   pub equilibrium : (strategic : Bool) (game : Game) (list : List ℚ) → TreesAreGames → IsGame game → form_in size_of_program strategic game (Ok f) → entries_in strategic game plans.one plans.two (Ok list) → AreOfEquilibrium strategic game list

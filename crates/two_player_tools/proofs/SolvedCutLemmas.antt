@@ -19,9 +19,9 @@ use Rattle.subgames.specs.MadeCuts.{MadeCut}
 use Rattle.subgames.specs.Roots.{IsSubgameRoot}
 use Rattle.subgames.proofs.CutSingleLemmas.{cuts-single}
 use Rattle.refusals.specs.declared.refusal.Refusal.{Refusal}
-use Rattle.two_player_tools.specs.Perfect.{IsSolvedAt, IsStoppedAt, cut_in}
+use Rattle.two_player_tools.specs.Perfect.{IsSolvedAt, IsStoppedAt, cut_entries_in}
 use Rattle.two_player_tools.specs.declared.forms.Method.{Method}
-use Rattle.two_player_tools.proofs.CutAnswerLemmas.{cut_in-single}
+use Rattle.two_player_tools.proofs.CutAnswerLemmas.{cut_entries_in-single}
 use Rattle.two_player_tools.proofs.FormSingleLemmas.{RecallsAreSingle}
 use Rattle.two_player_tools.proofs.KeptPropertyLemmas.{TreesAreGames}
 
@@ -61,14 +61,14 @@ module _ (method : Method) (t : GameTree) (laws : TreesAreGames) (recalls : Reca
   -- it does not both stop and have a solution
   pub solved-or_stopped : (b : Behaviour) (r : Refusal) → IsSolvedAt method t worth b n → IsStoppedAt method t other n r → ⊥
   solved-or_stopped b r h k =
-      single-exclude (cut_in method n h.cut) _ r (cut_in-single method n h.cut laws recalls h.is_cut.is_cut.is_tree) h.solved
-      (subst (λ cut. cut_in method n cut (Err r)) (one-cut h.cut k.cut h.is_cut k.is_cut) k.stops)
+      single-exclude (cut_entries_in method n h.cut) _ r (cut_entries_in-single method n h.cut laws recalls h.is_cut.is_cut.is_tree) h.solved
+      (subst (λ cut. cut_entries_in method n cut (Err r)) (one-cut h.cut k.cut h.is_cut k.is_cut) k.stops)
 
   -- it stops for one reason
   pub stopped-same : (r q : Refusal) → IsStoppedAt method t worth n r → IsStoppedAt method t other n q → r ≡ q
   stopped-same r q h k =
-      err_same r q (cut_in-single method n h.cut laws recalls h.is_cut.is_cut.is_tree (Err r) (Err q) h.stops
-      (subst (λ cut. cut_in method n cut (Err q)) (one-cut h.cut k.cut h.is_cut k.is_cut) k.stops))
+      err_same r q (cut_entries_in-single method n h.cut laws recalls h.is_cut.is_cut.is_tree (Err r) (Err q) h.stops
+      (subst (λ cut. cut_entries_in method n cut (Err q)) (one-cut h.cut k.cut h.is_cut k.is_cut) k.stops))
 
   module _ (b d : Behaviour) (h : IsSolvedAt method t worth b n) (k : IsSolvedAt method t other d n) where
     -- both are of one cut
@@ -79,8 +79,8 @@ module _ (method : Method) (t : GameTree) (laws : TreesAreGames) (recalls : Reca
     pub solved-alike : AreAlike (game_of_tree h.cut.tree) (cut_behaviour h.cut.sets b) (cut_behaviour h.cut.sets d)
     solved-alike =
         entries-alike (game_of_tree h.cut.tree) (cut_behaviour h.cut.sets b) (cut_behaviour h.cut.sets d) (laws.game_tree h.cut.tree h.is_cut.is_cut.is_tree)
-        (single-value (cut_in method n h.cut) _ _ (cut_in-single method n h.cut laws recalls h.is_cut.is_cut.is_tree) h.solved
-        (subst (λ (cut : MadeCut). cut_in method n cut (Ok (tree_entries (game_of_tree cut.tree) (cut_behaviour cut.sets d)))) same k.solved))
+        (single-value (cut_entries_in method n h.cut) _ _ (cut_entries_in-single method n h.cut laws recalls h.is_cut.is_cut.is_tree) h.solved
+        (subst (λ (cut : MadeCut). cut_entries_in method n cut (Ok (tree_entries (game_of_tree cut.tree) (cut_behaviour cut.sets d)))) same k.solved))
 
     -- and the node is worth the same
     pub solved-worth : n ≢ 0 → (i : ℕ) → i < length t.players → worth n i ≡ other n i

@@ -9,8 +9,8 @@ use Rattle.behaviour_profile.specs.Plans.{plan_behaviour}
 use Rattle.refusals.specs.Told.{behaviour_refusal}
 use Rattle.refusals.specs.declared.refusal.Refusal.{Refusal}
 
--- The entries of two plans: of a tree its behaviour, else the weights of the strategies, which are
--- those of all sequences but the empty one.
+-- The entries of two plans: on a tree, unless strategies are asked for, those of its behaviour;
+-- else the weights of the strategies, which are those of all sequences but the empty one.
 abbrev pub entries_in : Bool → Game → List ℚ → List ℚ → Answer Refusal (List ℚ)
 entries_in false (Extensive t) one two = refused_by behaviour_refusal (plan_behaviour t one two)
 entries_in _ _ one two = only (drop 1 one ++ drop 1 two)

@@ -13,8 +13,8 @@ use Rattle.game_core.specs.declared.game.Game.{Game}
 use Rattle.game_core.specs.declared.game.Game.TheVariants.{Extensive}
 use Rattle.two_player_tools.specs.StrategicForms.{strategic_form}
 
--- on a tree the entries of behaviour that is an equilibrium, else those of a mixed profile of the
--- strategic form that is one
+-- on a tree, unless strategies are asked for, the entries of behaviour that is an equilibrium; else
+-- those of a mixed profile of the strategic form that is one
 abbrev pub AreOfEquilibrium : Bool → Game → List ℚ → Type 0
 AreOfEquilibrium false (Extensive t) list =
     (b : Behaviour) × IsEquilibrium (game_of_tree t) b × (list ≡ tree_entries (game_of_tree t) b)

@@ -6,7 +6,7 @@ use Rattle.game_theory.specs.Behaviour.{Behaviour}
 use Rattle.game_core.specs.Tree.{GameTree}
 use Rattle.game_core.specs.TreeGame.{game_of_tree}
 use Rattle.behaviour_profile.specs.ListedBehaviour.{HasProbabilities, listed_behaviour}
-use Rattle.subgames.specs.MadeCuts.{MadeCut, given_at}
+use Rattle.subgames.specs.MadeCuts.{MadeCut, worth_at}
 use Rattle.subgames.specs.Roots.{IsSubgameRoot}
 use Rattle.two_player_tools.specs.Perfect.{IsSolvedAt}
 use Rattle.two_player_tools.specs.declared.forms.Method.{Method}
@@ -16,12 +16,13 @@ use Rattle.two_player_tools.specs.declared.perfect.Known.{Known}
 abbrev pub lists_of : Known → List (List ℚ)
 lists_of known = map (λ v. v.items) known.lists.items
 
--- the behaviour that is known, and what nodes are worth
+-- the behaviour that is known
 abbrev pub behaviour_in : Known → Behaviour
 behaviour_in known = listed_behaviour (lists_of known)
 
+-- what nodes are worth to the players, as far as it is known
 abbrev pub worth_in : GameTree → Known → ℕ → ℕ → ℚ
-worth_in t known = given_at (length t.players) known.worth.items
+worth_in t known = worth_at (length t.players) known.worth.items
 
 -- there is a number for each player at each node, and for each action at each set
 pub record IsRoomFor (t : GameTree) (known : Known) : Type 0 where

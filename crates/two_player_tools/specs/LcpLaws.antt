@@ -14,11 +14,13 @@ abbrev pub IsEquilibriumText : Bool → Game → List ℕ → Type 0
 IsEquilibriumText strategic game text =
     (list : List ℚ) × AreOfEquilibrium strategic game list × (text ≡ line_text list)
 
--- so it is of each text; of a tree that is solved subgame by subgame the equilibrium is subgame-perfect
+-- what a text of `lcp` is: the line of an equilibrium, which is subgame-perfect where a tree is
+-- solved subgame by subgame
 abbrev pub IsLcpText : (strategic perfect : Bool) → Game → List ℕ → Type 0
 IsLcpText strategic true (Extensive t) text = IsPerfectText t text
 IsLcpText strategic _ game text = IsEquilibriumText strategic game text
 
+-- each text of `lcp` for a game is so
 abbrev pub LcpTextsAreEquilibria : Type 0
 LcpTextsAreEquilibria =
     (strategic perfect : Bool) (game : Game) (text : List ℕ) → IsGame game

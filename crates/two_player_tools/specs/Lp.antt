@@ -4,7 +4,7 @@ use Rattle.std.specs.Prelude.{ℕ, suc, Bool, true, false, List, [], ◌∷◌, 
 use Rattle.answers.specs.Answers.{Answer, only, refuse_where, ◌>>=◌, ◌>>◌, refused_by}
 use Rattle.rational.specs.Rational.{ℚ, ◌+ℚ◌}
 use Rattle.rational.specs.Sum.{entry_at}
-use Rattle.frac128.specs.Steps.{AddFits, unfit}
+use Rattle.frac128.specs.Steps.{AddFits, step_of}
 use Rattle.frac128.specs.declared.steps.Op.TheVariants.{Add}
 use Rattle.game_theory.specs.Lines.{line_text, listed}
 use Rattle.game_core.specs.declared.game.Game.{Game}
@@ -64,7 +64,7 @@ first_price s = entry_at s.prices_two 0
 
 -- why there is no value
 abbrev pub value_refusal : FormData → Solution → Refusal
-value_refusal f s = refusal.Range site.Value (unfit Add (first_price s) f.least_one)
+value_refusal f s = refusal.Range site.Value (step_of Add (first_price s) f.least_one)
 
 -- these lines, where they are asked for and the value can be added
 abbrev pub prices_in : Bool → FormData → Solution → Answer Refusal (List ℕ)

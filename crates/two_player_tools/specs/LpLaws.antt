@@ -21,8 +21,8 @@ use Rattle.two_player_tools.specs.PerfectTexts.{IsPerfectText}
 use Rattle.two_player_tools.specs.StrategicForms.{strategic_form}
 use Rattle.two_player_tools.specs.TwoPlayers.{form_in}
 
--- plans and value of a solution hold on the file's own game: on a tree by its behaviour, else on the
--- strategic form
+-- plans and value of a solution hold on the file's own game: on a tree, unless strategies are asked
+-- for, by its behaviour; else on the strategic form
 abbrev pub HoldsOn : Bool → Game → Solution → Type 0
 HoldsOn false (Extensive t) s =
     AreOptimalOnTree (game_of_tree t) (entry_at s.one) (entry_at s.two) s.value
@@ -53,12 +53,13 @@ pub record IsSolved (strategic prices : Bool) (game : Game) (text : List ℕ) : 
   pub equilibrium : AreOfEquilibrium strategic game entries
   pub text_is : text ≡ line_text entries ++ (if prices then prices_text form solution else [])
 
--- so it is of each text; that of a tree that is solved subgame by subgame is the line of an equilibrium
--- that is subgame-perfect
+-- what a text of `lp` is: that of a solution; but where a tree is solved subgame by subgame, the
+-- line of an equilibrium that is subgame-perfect
 abbrev pub IsLpText : (strategic prices perfect : Bool) → Game → List ℕ → Type 0
 IsLpText strategic prices true (Extensive t) text = IsPerfectText t text
 IsLpText strategic prices _ game text = IsSolved strategic prices game text
 
+-- each text of `lp` for a game is so
 abbrev pub LpTextsAreSolutions : Type 0
 LpTextsAreSolutions =
     (strategic prices perfect : Bool) (game : Game) (text : List ℕ) → IsGame game

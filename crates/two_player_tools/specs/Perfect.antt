@@ -56,7 +56,7 @@ in_subgame n nodes (refusal.NotConstant first second first_sum second_sum) =
     refusal.NotConstant (slice_index nodes first) (slice_index nodes second) first_sum second_sum
 in_subgame n nodes r = r
 
--- why it is not computed what node n is worth to the players
+-- why what node n is worth to the players is not computed
 abbrev pub worth_refusal : ℕ → PayoffsStop → Refusal
 worth_refusal n (payoffs_stop.Range player step) =
     refusal.SubgameRange n (site.PlayerValue player) step
@@ -64,17 +64,17 @@ worth_refusal n payoffs_stop.Memory = refusal.Memory
 
 -- ---- cuts
 -- the steps of what behaviour with these entries pays fit; or the first that does not, with its player
-abbrev pub payoffs_of : GameTree → List ℚ → Answer PayoffsStop (Unit {0})
-payoffs_of t entries answer =
+abbrev pub node_payoffs_fit : GameTree → List ℚ → Answer PayoffsStop (Unit {0})
+node_payoffs_fit t entries answer =
     (b : Behaviour) × (entries ≡ tree_entries (game_of_tree t) b)
     × behaviour_payoffs_in (game_of_tree t) b answer
 
 -- The entries of the behaviour that a method finds for the cut at node n, which pays each player what
 -- can be computed; at the tree's root that is not asked.
-abbrev pub cut_in : Method → ℕ → MadeCut → Answer Refusal (List ℚ)
-cut_in method n cut = do
+abbrev pub cut_entries_in : Method → ℕ → MadeCut → Answer Refusal (List ℚ)
+cut_entries_in method n cut = do
   entries ← refused_by (in_subgame n cut.nodes) (entries_by method cut.tree)
-  by_case (n ≡ 0) (only tt) (refused_by (worth_refusal n) (payoffs_of cut.tree entries))
+  by_case (n ≡ 0) (only tt) (refused_by (worth_refusal n) (node_payoffs_fit cut.tree entries))
   only entries
 
 -- the cut at node n is solved by behaviour b, and to each player the node is worth what this pays there
@@ -82,7 +82,8 @@ pub record IsSolvedAt (method : Method) (t : GameTree) (worth : ℕ → ℕ → 
     : Type 0 where
   pub cut : MadeCut
   pub is_cut : IsCutAt t n worth cut.nodes cut.sets cut.tree
-  pub solved : cut_in method n cut (Ok (tree_entries (game_of_tree cut.tree) (cut_behaviour cut.sets b)))
+  pub solved : cut_entries_in method n cut
+      (Ok (tree_entries (game_of_tree cut.tree) (cut_behaviour cut.sets b)))
   pub worth_is : n ≢ 0 → (i : ℕ) → i < length t.players
       → worth n i ≡ payoff (game_of_tree cut.tree) (cut_behaviour cut.sets b) i
 
@@ -97,7 +98,7 @@ pub record IsStoppedAt (method : Method) (t : GameTree) (worth : ℕ → ℕ →
     : Type 0 where
   pub cut : MadeCut
   pub is_cut : IsCutAt t n worth cut.nodes cut.sets cut.tree
-  pub stops : cut_in method n cut (Err r)
+  pub stops : cut_entries_in method n cut (Err r)
 
 -- ---- the tree
 -- the entries of behaviour that solves the cut wherever a subgame begins; or why the last cut that is
@@ -121,11 +122,12 @@ perfect_text method t = do
   only (line_text entries)
 
 -- ---- the tools
--- the answers of the tools `lcp` and `lp`: of a tree subgame by subgame where that is asked for
+-- the answer of the tool `lcp`: of a tree subgame by subgame where that is asked for
 abbrev pub lcp_tool : (strategic perfect : Bool) → Game → Answer Refusal (List ℕ)
 lcp_tool strategic true (Extensive t) = perfect_text Complementarity t
 lcp_tool strategic _ game = lcp strategic game
 
+-- the answer of the tool `lp`, likewise
 abbrev pub lp_tool : (strategic prices perfect : Bool) → Game → Answer Refusal (List ℕ)
 lp_tool strategic prices true (Extensive t) = perfect_text LinearProgram t
 lp_tool strategic prices _ game = lp strategic prices game

@@ -28,7 +28,7 @@ abbrev pub players_of : Game → ℕ
 players_of (Strategic table) = length table.players
 players_of (Extensive tree) = length tree.players
 
--- nothing, but of a game with two players
+-- refuses a game that has not two players
 abbrev pub two_players : Game → Answer Refusal (Unit {0})
 two_players game = refuse_where (players_of game ≢ 2) (refusal.NotTwoPlayers (players_of game))
 
@@ -38,10 +38,11 @@ abbrev pub rows_by : Method → Counts → ℕ
 rows_by LinearProgram = size_of_program
 rows_by Complementarity = problem_rows
 
--- the sizes of the sequence forms of a table and of a tree
+-- the sizes of the sequence form of a table
 abbrev pub table_counts : GameTable → Counts
 table_counts t = counts_of (start_side (count_of_rows t)) (start_side (count_of_columns t))
 
+-- the sizes of the sequence form of a tree
 abbrev pub tree_counts : GameTree → Counts
 tree_counts t = counts_of (tree_side (game_of_tree t) 0) (tree_side (game_of_tree t) 1)
 
@@ -66,6 +67,6 @@ form_in rows _ game = do
   table ← strategic_form game
   form_of_table rows table
 
--- a form that a game has, whatever rows are counted
+-- a form that a game has, by some count of its rows
 abbrev pub HasForm : Bool → Game → FormData → Type 0
 HasForm strategic game form = (rows : Counts → ℕ) × form_in rows strategic game (Ok form)

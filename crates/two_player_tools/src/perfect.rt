@@ -33,10 +33,10 @@ ghost use Rattle.subgames.specs.Roots.{IsSubgameRoot};
 ghost use Rattle.two_player_tools.specs.KnownCuts.{AreKeptTo, AreSolvedFrom, IsRoomFor, worth_in};
 ghost use Rattle.two_player_tools.specs.Perfect.{
   IsStoppedAt,
-  cut_in,
+  cut_entries_in,
   entries_by,
   in_subgame,
-  payoffs_of,
+  node_payoffs_fit,
   perfect_in,
   perfect_text,
   worth_refusal,
@@ -170,7 +170,7 @@ fn payoffs_of(
         behaviour.now ≡ tree_entries t b
         → IfOk result (λ payoffs. payoffs.items ≡ listed t.players (payoff t b)) }
     ensures stops { Gives Refusal.Memory
-        (refused_by (worth_refusal root) (payoffs_of cut.now behaviour.now))
+        (refused_by (worth_refusal root) (node_payoffs_fit cut.now behaviour.now))
         (map_ok result (λ _. tt)) }
 {
     match behaviour_payoffs(alloc, cut, behaviour) {
@@ -187,7 +187,7 @@ fn payoffs_of(
 // The solution of the cut at a node.
 fn solve_cut(alloc: Global, method: Method, root: u32, cut: &Cut) -> Result<SolvedCut, Refusal>
     requires { length cut.now.tree.players ≡ 2 }
-    ensures answer { Gives Refusal.Memory (cut_in method root cut.now)
+    ensures answer { Gives Refusal.Memory (cut_entries_in method root cut.now)
         (map_ok result (λ solved. solved.behaviour)) }
     ensures entries { IfOk result (λ solved. AreBehaviourEntries cut.now.tree solved.behaviour) }
     ensures payoffs { (b : TreeBehaviour) → let t = game_of_tree cut.now.tree in

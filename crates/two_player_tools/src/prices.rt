@@ -2,7 +2,7 @@
 ghost use Rattle.std.specs.Prelude.{◌≡◌, ◌≤◌, suc, length, IfOk};
 ghost use Rattle.answers.specs.Answers.{Gives, map_ok, refuse_where};
 ghost use Rattle.rational.specs.Rational.{◌+ℚ◌};
-ghost use Rattle.frac128.specs.Steps.{AddFits, unfit};
+ghost use Rattle.frac128.specs.Steps.{AddFits, step_of};
 ghost use Rattle.game_theory.specs.Lines.{listed};
 ghost use Rattle.game_core.specs.Limits.{most_rows};
 ghost use Rattle.zero_sum_lp.specs.Parts.{first_prices, second_prices};
@@ -21,7 +21,7 @@ use zero_sum_lp::Optimum;
 fn value(price: Frac, least: Frac) -> Result<Frac, Refusal>
     ensures value { IfOk result (λ value. value ≡ price +ℚ least) }
     ensures stage { refuse_where (¬ (AddFits price least))
-        (Refusal.Range Site.Value (unfit Op.Add price least)) (map_ok result (λ _. tt)) }
+        (Refusal.Range Site.Value (step_of Op.Add price least)) (map_ok result (λ _. tt)) }
 {
     match price.add(least) {
         Ok(value) => Ok(value),

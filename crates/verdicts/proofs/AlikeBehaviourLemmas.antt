@@ -17,14 +17,16 @@ use Rattle.game_theory.specs.TreeEntries.{own_entries, tree_entries}
 use Rattle.game_theory.specs.TreeEquilibrium.{IsEquilibrium}
 use Rattle.game_theory.proofs.NamedChildLemmas.{child-later}
 use Rattle.game_theory.proofs.OwnSetLemmas.{own_sets-tell}
+use Rattle.game_theory.proofs.PathLemmas.{along_paths}
 use Rattle.game_theory.proofs.ChildLemmas.{where_true}
 use Rattle.game_theory.proofs.SubtreeLemmas.{value-agree}
-use Rattle.best_replies.specs.Reaching.{own_as_one, reach_to, weight}
+use Rattle.best_replies.specs.Reaching.{own_as_one, reach, weight}
 use Rattle.best_replies.specs.Replies.{follows, reply_value, AreBestChoices}
 use Rattle.best_replies.proofs.FirstGreatestLemmas.{IsFirstGreatest-same}
+use Rattle.best_replies.proofs.ReachLemmas.{reach-step}
 use Rattle.best_replies.proofs.WeightLemmas.{branch-at, step-to}
 use Rattle.frac128.specs.FirstUnfit.{all_fit}
-use Rattle.frac128.specs.Steps.{unfit, Step}
+use Rattle.frac128.specs.Steps.{step_of, Step}
 use Rattle.frac128.specs.declared.steps.Op.TheVariants.{Add}
 use Rattle.pure_payoffs.specs.Steps.{branch_steps, chance_steps}
 use Rattle.behaviour_profile.proofs.BehaviourEntryLemmas.{entries_at-same}
@@ -73,12 +75,10 @@ module _ (t : Tree) (b other : Behaviour) (w : IsTree t) (alike : AreAlike t b o
       branch-at t b c led.0 led.1 ∙ probability-alike led.0 (t.branch c) (step-to t c led.0 w p l led.1).within led.2 ∙ sym (branch-at t other c led.0 led.1)
 
   -- nodes are reached alike
-  reach-alike : (n k : ℕ) → k < t.size → reach_to t b n k ≡ reach_to t other n k
-  reach-alike zero k l = refl
-  reach-alike (suc n) zero l = refl
-  reach-alike (suc n) (suc k) l =
-      let after = w.after_parent (suc k) (omega arith) l in
-      ap₂ (λ x y. x *ℚ y) (reach-alike n (t.parent (suc k)) (omega (arith, after, l))) (branch-alike (suc k) (omega arith) l)
+  reach-alike : (k : ℕ) → k < t.size → reach t b k ≡ reach t other k
+  reach-alike =
+      along_paths t (λ k. reach t b k ≡ reach t other k) w refl (λ c p l before.
+      reach-step t b c w p l ∙ ap₂ (λ x y. x *ℚ y) before (branch-alike c p l) ∙ sym (reach-step t other c w p l))
 
   -- players have the same entries
   pub tree_entries-alike : tree_entries t b ≡ tree_entries t other
@@ -96,7 +96,7 @@ module _ (t : Tree) (b other : Behaviour) (w : IsTree t) (alike : AreAlike t b o
         go (Some s) e =
             let chance : (a : ℕ) → a < t.actions s → action_probability t b s a ≡ action_probability t other s a = λ a m. probability-alike s a (w.sets_within k s l e) m in
             let worth : (a : ℕ) → a < t.actions s → value t b i (child t k a) ≡ value t other i (child t k a) = λ a m. value-alike i (child t k a) (child-later t k s a w l e m).1 in
-            ap₂ (λ x y. x ++ unfit Add (t.pays k i) y ∷ [])
+            ap₂ (λ x y. x ++ step_of Add (t.pays k i) y ∷ [])
             (chances-alike (t.actions s) _ _ _ _ (λ a. f (child t k a)) (λ a. g (child t k a)) chance worth (λ a m. h (child t k a) (child-later t k s a w l e m).1))
             (products-alike (t.actions s) _ _ _ _ chance worth)
 
@@ -121,7 +121,7 @@ replies-alike t b other alike i choice s j a l o m = ap (λ x. if is_own t i s t
 -- nodes have the same weights
 pub weight-alike : (t : Tree) (b other : Behaviour) → IsTree t → AreAlike t b other → (i k : ℕ) → k < t.size → weight t b i k ≡ weight t other i k
 weight-alike t b other w alike i k l =
-    reach-alike t (own_as_one t b i) (own_as_one t other i) w (λ s j a m o n. ap (λ x. if is_own t i s then one_ℚ else x) (alike s j a m o n)) k k l
+    reach-alike t (own_as_one t b i) (own_as_one t other i) w (λ s j a m o n. ap (λ x. if is_own t i s then one_ℚ else x) (alike s j a m o n)) k l
 
 -- and the same reply values
 pub reply_value-alike : (t : Tree) (b other : Behaviour) → IsTree t → AreAlike t b other → (i : ℕ) (choice : ℕ → ℕ) (k : ℕ) → k < t.size → reply_value t b i choice k ≡ reply_value t other i choice k

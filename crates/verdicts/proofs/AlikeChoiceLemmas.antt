@@ -4,9 +4,9 @@ use Rattle.std.specs.Prelude.{◌&&◌, if◌then◌else◌, nat_lt, reverse}
 use Rattle.std.specs.List.{flat_map}
 use Rattle.std.proofs.lemmas.Option.{slice_get-get_or}
 use Rattle.lists.proofs.ElementLemmas.{made-same}
-use Rattle.rational.specs.Rational.{ℚ, ◌*ℚ◌, zero_ℚ}
+use Rattle.rational.specs.Rational.{◌*ℚ◌, zero_ℚ}
 use Rattle.rational.proofs.SumLemmas.{sum_to-same}
-use Rattle.frac128.specs.Steps.{unfit, Step}
+use Rattle.frac128.specs.Steps.{step_of, Step}
 use Rattle.frac128.specs.declared.steps.Op.TheVariants.{Add, Mul}
 use Rattle.game_theory.specs.Trees.{Tree, IsTree}
 use Rattle.game_theory.specs.Behaviour.{Behaviour}
@@ -18,18 +18,12 @@ use Rattle.game_theory.proofs.OwnSetLemmas.{IsAmong}
 use Rattle.best_replies.specs.Replies.{reply_value}
 use Rattle.best_replies.proofs.ReplyValueLemmas.{reply_value-agree}
 use Rattle.best_replies.proofs.WeightLemmas.{own_or_not, if_own, if_other}
-use Rattle.verdicts.specs.TreeSteps.{sum_steps, child_value, after_steps, after_sum, reply_steps_to, reply_steps, members, member_child, action_steps, decision_steps, player_steps, has_factor, weight_step, weight_steps}
+use Rattle.verdicts.specs.TreeSteps.{child_value, after_steps, after_sum, reply_steps_to, reply_steps, members, member_child, action_steps, decision_steps, player_steps, has_factor, weight_step, weight_steps}
 use Rattle.verdicts.proofs.AlikeBehaviourLemmas.{AreAlike, branch-alike, now_steps-alike, reply_value-alike, weight-alike}
 use Rattle.verdicts.proofs.TreeOwnSetLemmas.{turned}
+use Rattle.verdicts.proofs.TreeSumLemmas.{sum_steps-same}
 
 -- ---- lists of steps
--- sums of the same numbers
-sum_steps-alike : (n : ℕ) (v u : ℕ → ℚ) (f g : ℕ → List Step) → ((a : ℕ) → a < n → v a ≡ u a) → ((a : ℕ) → a < n → f a ≡ g a) → sum_steps n v f ≡ sum_steps n u g
-sum_steps-alike zero v u f g e h = refl
-sum_steps-alike (suc n) v u f g e h =
-    ap₂ (λ x y. x ++ y) (ap₂ (λ x y. x ++ y) (sum_steps-alike n v u f g (λ a l. e a (omega arith)) (λ a l. h a (omega arith))) (h n (omega arith)))
-    (ap₂ (λ x y. unfit Add x y ∷ []) (sum_to-same n v u (λ a l. e a (omega arith))) (e n (omega arith)))
-
 -- parts of a list from its last element on
 turned-alike : (xs : List ℕ) (f g : ℕ → List Step) → ((x : ℕ) → IsAmong xs x → f x ≡ g x) → flat_map f (reverse xs) ≡ flat_map g (reverse xs)
 turned-alike [] f g h = refl
@@ -49,7 +43,7 @@ module _ (t : Tree) (b behaviour : Behaviour) (i : ℕ) (choice other : ℕ → 
       step-alike zero l = refl
       step-alike (suc c) l =
           let after = w.after_parent (suc c) (omega arith) l in
-          ap₂ (λ x y. if nat_lt 0 (suc c) && has_factor t i (t.set (t.parent (suc c))) then unfit Mul x y ∷ [] else [])
+          ap₂ (λ x y. if nat_lt 0 (suc c) && has_factor t i (t.set (t.parent (suc c))) then step_of Mul x y ∷ [] else [])
           (weight-alike t b behaviour w alike i (t.parent (suc c)) (omega (arith, after, l))) (branch-alike t b behaviour w alike (suc c) (omega arith) l)
 
   -- nodes are worth the same
@@ -70,8 +64,8 @@ module _ (t : Tree) (b behaviour : Behaviour) (i : ℕ) (choice other : ℕ → 
       go : (o : Option ℕ) → t.set k ≡ o → after_steps t b i choice f k o ≡ after_steps t behaviour i other g k o
       go None e = refl
       go (Some s) e = elim (own_or_not t i s) [
-        | inl o ↦ if_own t i s _ _ o ∙ ap (λ x. unfit Add zero_ℚ x ∷ []) (chosen-alike k s l e o) ∙ sym (if_own t i s _ _ o)
-        | inr apart ↦ if_other t i s _ _ apart ∙ sum_steps-alike (t.actions s) _ _ (λ a. f (child t k a)) (λ a. g (child t k a)) (λ a m. child-alike k s l e a m) (λ a m. h (child t k a) (child-later t k s a w l e m).1) ∙ sym (if_other t i s _ _ apart)
+        | inl o ↦ if_own t i s _ _ o ∙ ap (λ x. step_of Add zero_ℚ x ∷ []) (chosen-alike k s l e o) ∙ sym (if_own t i s _ _ o)
+        | inr apart ↦ if_other t i s _ _ apart ∙ sum_steps-same (t.actions s) (child_value t b i choice k) (child_value t behaviour i other k) (λ a. f (child t k a)) (λ a. g (child t k a)) (λ a m. child-alike k s l e a m) (λ a m. h (child t k a) (child-later t k s a w l e m).1) ∙ sym (if_other t i s _ _ apart)
       ]
 
   sum-alike : (k : ℕ) → k < t.size → after_sum t b i choice k (t.set k) ≡ after_sum t behaviour i other k (t.set k)
@@ -89,12 +83,12 @@ module _ (t : Tree) (b behaviour : Behaviour) (i : ℕ) (choice other : ℕ → 
   reply-alike zero k l = refl
   reply-alike (suc d) k l =
       ap₂ (λ x y. x ++ y) (following-alike (reply_steps_to t b i choice d) (reply_steps_to t behaviour i other d) k l (λ c m. reply-alike d c m))
-      (ap₂ (λ x y. unfit Mul x (t.pays k i) ∷ unfit Add (x *ℚ t.pays k i) y ∷ []) (weight-alike t b behaviour w alike i k l) (sum-alike k l))
+      (ap₂ (λ x y. step_of Mul x (t.pays k i) ∷ step_of Add (x *ℚ t.pays k i) y ∷ []) (weight-alike t b behaviour w alike i k l) (sum-alike k l))
 
   -- the steps of a decision
   action-alike : (s a : ℕ) → a < t.actions s → action_steps t b i choice s a ≡ action_steps t behaviour i other s a
   action-alike s a m =
-      sum_steps-alike (length (members t s)) _ _ (λ j. reply_steps t b i choice (member_child t s a j)) (λ j. reply_steps t behaviour i other (member_child t s a j))
+      sum_steps-same (length (members t s)) (λ j. reply_value t b i choice (member_child t s a j)) (λ j. reply_value t behaviour i other (member_child t s a j)) (λ j. reply_steps t b i choice (member_child t s a j)) (λ j. reply_steps t behaviour i other (member_child t s a j))
       (λ j l. values-alike (member_child t s a j) (inside j l)) (λ j l. reply-alike t.size (member_child t s a j) (inside j l))
     where
       inside : (j : ℕ) → j < length (members t s) → member_child t s a j < t.size

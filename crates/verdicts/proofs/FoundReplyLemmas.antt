@@ -1,5 +1,5 @@
 -- What the check of one player says of all.
-use Rattle.std.proofs.Common.{ℕ, ◌<◌, ◌≡◌, inl, inr, List, All, map, get_or, ◌∙◌, subst}
+use Rattle.std.proofs.Common.{ℕ, ◌<◌, ◌≡◌, inl, inr, List, All, map, get_or, ◌∙◌, subst, arith}
 use Rattle.rational.specs.Rational.{ℚ, ◌≤ℚ◌, ◌<ℚ◌}
 use Rattle.rational.proofs.Field.{le_or_lt}
 use Rattle.game_theory.specs.Trees.{Tree}
@@ -33,5 +33,5 @@ module _ (t : Tree) (b : Behaviour) (i : ℕ) (choice : ℕ → ℕ) (now best :
     payoff_is = now_is;
     best_is = best_is;
     more = more;
-    reply_is = is ∙ map-among _ choice (own_sets t i) (λ s among. let own = own_sets-tell t i s among in chosen s own.0 own.1);
+    reply_is = is ∙ map-among _ choice (own_sets t i) (λ s among. let own = own_sets-tell t i s among in chosen s (omega arith) own.0 own.1);
   }

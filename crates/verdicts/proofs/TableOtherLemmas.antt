@@ -1,18 +1,45 @@
 -- The probabilities of the others, multiplied player by player.
-use Rattle.std.proofs.Common.{ℕ, suc, ◌+◌, ◌/◌, ◌%◌, ◌<◌, ◌≡◌, ◌≢◌, Bool, true, false, Decides, List, [], ◌∷◌, ◌++◌, Ok, Err, Result, length, get_or, drop, refl, sym, ap, ap₂, ◌∙◌, subst, drop-cons, arith}
-use Rattle.std.specs.Prelude.{◌==◌, if◌then◌else◌}
+use Rattle.std.proofs.Common.{ℕ, suc, ◌+◌, ◌/◌, ◌%◌, ◌<◌, ◌≡◌, ◌≢◌, Bool, true, false, Decides, List, [], ◌∷◌, ◌++◌, Ok, Err, Result, length, map, get_or, drop, refl, sym, ap, ap₂, ◌∙◌, subst, drop-cons, add-one, arith}
+use Rattle.std.specs.Prelude.{◌==◌, not, if◌then◌else◌}
+use Rattle.std.specs.List.{filter, range_with_len}
 use Rattle.std.proofs.lemmas.Bool.Decides.{Decides-eqb}
 use Rattle.rational.specs.Rational.{ℚ, ◌*ℚ◌, one_ℚ}
 use Rattle.rational.proofs.RationalRing.{*ℚ_assoc, *ℚ-one}
 use Rattle.rational.proofs.Rules.{one-*ℚ}
-use Rattle.frac128.specs.Steps.{MulFits, unfit, Step, IsFirstUnfit, StepsGive}
+use Rattle.frac128.specs.Steps.{MulFits, step_of, Step, IsFirstUnfit, StepsGive}
 use Rattle.frac128.specs.declared.steps.Op.TheVariants.{Mul}
 use Rattle.frac128.specs.declared.steps.Unfit.{Unfit}
 use Rattle.game_theory.specs.Profiles.{profile_at}
 use Rattle.game_theory.specs.Mixed.{Mixed, later, probability}
 use Rattle.frac128.proofs.StepRunLemmas.{first_unfit-here, one-fits, following-gives}
 use Rattle.best_replies.specs.Strategies.{own_as_one, weight}
-use Rattle.verdicts.specs.TableChecks.{others_from, others_probabilities, product_steps}
+use Rattle.verdicts.specs.TableChecks.{others_probabilities, product_steps}
+
+-- the probabilities with which players j and later, other than i, play their strategies
+abbrev pub others_from : Mixed → ℕ → ℕ → List ℕ → List ℚ
+others_from m i j [] = []
+others_from m i j (s ∷ strategies) = (if j == i then [] else m j s ∷ []) ++ others_from m i (suc j) strategies
+
+-- these are those of the numbers from j on, where they read the same strategies
+others-listed : (m : Mixed) (i j : ℕ) (strategies : List ℕ) (at : ℕ → ℕ) → ((k : ℕ) → k < length strategies → at (j + k) ≡ get_or strategies k 0)
+    → map (λ k. m k (at k)) (filter (λ k. not (k == i)) (range_with_len j (length strategies))) ≡ others_from m i j strategies
+others-listed m i j [] at same = refl
+others-listed m i j (s ∷ strategies) at same =
+    go (j == i) (filter (λ k. not (k == i)) (range_with_len (j + 1) (length strategies)))
+    (ap (λ n. map (λ k. m k (at k)) (filter (λ k. not (k == i)) (range_with_len n (length strategies)))) (add-one j)
+    ∙ others-listed m i (suc j) strategies at (λ k l. ap at (let e : suc j + k ≡ j + suc k = omega arith in e) ∙ same (suc k) (omega (arith, l))))
+  where
+    first : at j ≡ s
+    first = ap at (let e : j ≡ j + 0 = omega arith in e) ∙ same 0 (omega arith)
+
+    go : (own : Bool) (ks : List ℕ) → map (λ k. m k (at k)) ks ≡ others_from m i (suc j) strategies
+        → map (λ k. m k (at k)) (if not own then j ∷ ks else ks) ≡ (if own then [] else m j s ∷ []) ++ others_from m i (suc j) strategies
+    go true ks h = h
+    go false ks h = ap₂ (λ q qs. q ∷ qs) (ap (m j) first) h
+
+-- from the first player on these are all
+pub others-from_first : (m : Mixed) (i : ℕ) (profile : List ℕ) → others_probabilities m i profile ≡ others_from m i 0 profile
+others-from_first m i profile = others-listed m i 0 profile (λ k. get_or profile k 0) (λ k l. ap (λ n. get_or profile n 0) (let e : 0 + k ≡ k = omega arith in e))
 
 -- the probabilities of the players from j on
 abbrev from : Mixed → ℕ → Mixed
@@ -26,8 +53,9 @@ module _ (m : Mixed) (i : ℕ) where
   -- at the first player these are all
   pub all-left : (strategies : List ℕ) (r : Result ℚ Unfit) → GiveFrom 0 strategies one_ℚ r → StepsGive (product_steps one_ℚ (others_probabilities m i strategies)) (weight m i strategies) r
   all-left strategies r h =
+      subst (λ qs. StepsGive (product_steps one_ℚ qs) (weight m i strategies) r) (sym (others-from_first m i strategies))
       (let start : from (own_as_one m i) 0 ≡ own_as_one m i = λ d k s. own_as_one m i ((let e : 0 + k ≡ k = omega arith in e) d) s in
-      subst (λ v. StepsGive (product_steps one_ℚ (others_probabilities m i strategies)) v r) (one-*ℚ _ ∙ ap (λ x. probability x strategies) start) h)
+      subst (λ v. StepsGive (product_steps one_ℚ (others_from m i 0 strategies)) v r) (one-*ℚ _ ∙ ap (λ x. probability x strategies) start) h)
 
   -- after the last player there are none
   pub none-left : (j : ℕ) (product : ℚ) → GiveFrom j [] product (Ok product)
@@ -63,19 +91,19 @@ module _ (m : Mixed) (i : ℕ) where
             → StepsGive (product_steps product ((if b then [] else m j s ∷ []) ++ others_from m i (suc j) strategies)) (product *ℚ probability (from (own_as_one m i) j) (s ∷ strategies)) r
         go true d v = absurd (ne (d.0 refl))
         go false d v =
-            following-gives (unfit Mul product (m j s) ∷ []) (product_steps (product *ℚ m j s) (others_from m i (suc j) strategies)) (product *ℚ probability (from (own_as_one m i) j) (s ∷ strategies)) r
-            (one-fits (unfit Mul product (m j s)) (subst (MulFits product) is fits))
+            following-gives (step_of Mul product (m j s) ∷ []) (product_steps (product *ℚ m j s) (others_from m i (suc j) strategies)) (product *ℚ probability (from (own_as_one m i) j) (s ∷ strategies)) r
+            (one-fits (step_of Mul product (m j s)) (subst (MulFits product) is fits))
             (subst (λ x. StepsGive (product_steps (product *ℚ m j s) (others_from m i (suc j) strategies)) x r) (*ℚ_assoc product (m j s) _ ∙ ap (λ x. product *ℚ x) (sym v)) there)
 
     -- or the product with it is the first step that does not fit
-    pub other-unfit : (product q : ℚ) (u : Step) → j ≢ i → q ≡ m j s → u ≡ unfit Mul product q → (MulFits product q → ⊥) → GiveFrom j (s ∷ strategies) product (Err u)
+    pub other-unfit : (product q : ℚ) (u : Step) → j ≢ i → q ≡ m j s → u ≡ step_of Mul product q → (MulFits product q → ⊥) → GiveFrom j (s ∷ strategies) product (Err u)
     other-unfit product q u ne is step fails = go (j == i) (Decides-eqb j i)
       where
         go : (b : Bool) → Decides b (j ≡ i) → IsFirstUnfit (product_steps product ((if b then [] else m j s ∷ []) ++ others_from m i (suc j) strategies)) u
         go true d = absurd (ne (d.0 refl))
         go false d =
-            subst (IsFirstUnfit (unfit Mul product (m j s) ∷ product_steps (product *ℚ m j s) (others_from m i (suc j) strategies))) (sym (step ∙ ap (unfit Mul product) is))
-            (first_unfit-here (unfit Mul product (m j s)) (product_steps (product *ℚ m j s) (others_from m i (suc j) strategies)) (λ fits. let back : MulFits product (m j s) = fits in fails (subst (MulFits product) (sym is) back)))
+            subst (IsFirstUnfit (step_of Mul product (m j s) ∷ product_steps (product *ℚ m j s) (others_from m i (suc j) strategies))) (sym (step ∙ ap (step_of Mul product) is))
+            (first_unfit-here (step_of Mul product (m j s)) (product_steps (product *ℚ m j s) (others_from m i (suc j) strategies)) (λ fits. let back : MulFits product (m j s) = fits in fails (subst (MulFits product) (sym is) back)))
 
 -- the strategies of the players from one on, in what is left of a profile's number
 pub strategies-left : (ns : List ℕ) (j rest : ℕ) → j < length ns → profile_at (drop j ns) rest ≡ (rest % get_or ns j 0) ∷ profile_at (drop (suc j) ns) (rest / get_or ns j 0)

@@ -15,8 +15,9 @@ use Rattle.frac128.specs.Steps.{Step, StepFits, IsFirstUnfit}
 use Rattle.frac128.proofs.FirstUnfitLemmas.{unfit_among, unfit_once}
 use Rattle.best_replies.specs.Strategies.{own_as_one, strategy_value, weight, value_below}
 use Rattle.best_replies.proofs.FirstGreatestLemmas.{IsFirstGreatest-same, first_greatest-unique}
-use Rattle.verdicts.specs.TableChecks.{HasNoBetter, IsBetterReply, IsFirstBetter, IsRangeStop, IsTableVerdict, others_from, payoff_below, payoff_steps, player_steps, product_steps, steps_at, strategy_steps, value_steps, weighed_steps}
+use Rattle.verdicts.specs.TableChecks.{HasNoBetter, IsBetterReply, IsFirstBetter, IsRangeStop, IsTableVerdict, others_probabilities, payoff_below, payoff_steps, player_steps, product_steps, steps_at, strategy_steps, value_steps, weighed_steps}
 use Rattle.verdicts.specs.TableLaws.{TableVerdictsAreSingle}
+use Rattle.verdicts.proofs.TableOtherLemmas.{others_from, others-from_first}
 use Rattle.verdicts.specs.declared.tables.TableVerdict.{TableVerdict}
 use Rattle.verdicts.specs.declared.tables.TableVerdict.TheVariants.{Equilibrium, Better, Range}
 
@@ -45,10 +46,12 @@ module _ (g : Game) (m other : Mixed) (same : (i s : ℕ) → i < length g.strat
   weight-same i k l =
       probability-same (profile_at g.strategies k) (own_as_one m i) (own_as_one other i) (λ j b. ap (λ q. if j == i then one_ℚ else q) (at_profile k l j b))
 
-  others_of-same : (i k : ℕ) → k < profile_count g.strategies → others_from m i 0 (profile_at g.strategies k) ≡ others_from other i 0 (profile_at g.strategies k)
+  others_of-same : (i k : ℕ) → k < profile_count g.strategies → others_probabilities m i (profile_at g.strategies k) ≡ others_probabilities other i (profile_at g.strategies k)
   others_of-same i k l =
-      others-same i 0 (profile_at g.strategies k) m other
+      others-from_first m i (profile_at g.strategies k)
+      ∙ others-same i 0 (profile_at g.strategies k) m other
       (λ j b. subst (λ n. m n (get_or (profile_at g.strategies k) j 0) ≡ other n (get_or (profile_at g.strategies k) j 0)) (let e : j ≡ 0 + j = omega arith in e) (at_profile k l j b))
+      ∙ sym (others-from_first other i (profile_at g.strategies k))
 
   below-same : (i s n : ℕ) → n ≤ profile_count g.strategies → value_below g m i s n ≡ value_below g other i s n
   below-same i s n l =

@@ -7,7 +7,7 @@ use Rattle.rational.specs.Tests.{eq_ℚ}
 use Rattle.rational.proofs.Decide.{eq_ℚ-decides}
 use Rattle.rational.proofs.RationalRing.{+ℚ-zero}
 use Rattle.rational.proofs.Rules.{zero-*ℚ}
-use Rattle.frac128.specs.Steps.{AddFits, MulFits, unfit, Step, StepFits, IsFirstUnfit, StepsGive}
+use Rattle.frac128.specs.Steps.{AddFits, MulFits, step_of, Step, StepFits, IsFirstUnfit, StepsGive}
 use Rattle.frac128.specs.declared.steps.Op.TheVariants.{Add, Mul}
 use Rattle.frac128.specs.declared.steps.Unfit.{Unfit}
 use Rattle.frac128.proofs.StepRunLemmas.{first_unfit-here, one-fits, added-gives, following-gives}
@@ -19,7 +19,7 @@ not_true false h = refl
 
 module _ (sum weight number : ℚ) where
   abbrev both : List Step
-  both = unfit Mul weight number ∷ unfit Add sum (weight *ℚ number) ∷ []
+  both = step_of Mul weight number ∷ step_of Add sum (weight *ℚ number) ∷ []
 
   -- a weight of 0 adds nothing
   weighed-none : weight ≡ zero_ℚ → weighed_steps weight number sum ≡ []
@@ -33,15 +33,15 @@ module _ (sum weight number : ℚ) where
       (sym (ap (λ x. sum +ℚ (x *ℚ number)) e ∙ ap (λ x. sum +ℚ x) (zero-*ℚ number) ∙ +ℚ-zero sum), subst (All StepFits) (sym (weighed-none e)) (All-nil StepFits))
 
   -- another weight is multiplied, and the product is added
-  pub product-unfit : (u : Step) → weight ≢ zero_ℚ → u ≡ unfit Mul weight number → (MulFits weight number → ⊥) → IsFirstUnfit (weighed_steps weight number sum) u
+  pub product-unfit : (u : Step) → weight ≢ zero_ℚ → u ≡ step_of Mul weight number → (MulFits weight number → ⊥) → IsFirstUnfit (weighed_steps weight number sum) u
   product-unfit u ne is fails =
       subst (λ s. IsFirstUnfit s u) (sym (weighed-some ne))
-      (subst (IsFirstUnfit both) (sym is) (first_unfit-here (unfit Mul weight number) (unfit Add sum (weight *ℚ number) ∷ []) fails))
+      (subst (IsFirstUnfit both) (sym is) (first_unfit-here (step_of Mul weight number) (step_of Add sum (weight *ℚ number) ∷ []) fails))
 
   pub product-added : (product : ℚ) (r : Result ℚ Unfit) → weight ≢ zero_ℚ → product ≡ weight *ℚ number → MulFits weight number
-      → IfOk r (λ v. v ≡ sum +ℚ product) → OnOk r (AddFits sum product) → IfErr r (λ e. e ≡ unfit Add sum product) → OnErr r (AddFits sum product → ⊥)
+      → IfOk r (λ v. v ≡ sum +ℚ product) → OnOk r (AddFits sum product) → IfErr r (λ e. e ≡ step_of Add sum product) → OnErr r (AddFits sum product → ⊥)
       → StepsGive (weighed_steps weight number sum) (sum +ℚ (weight *ℚ number)) r
   product-added product r ne is fits value added step refused =
       subst (λ s. StepsGive s (sum +ℚ (weight *ℚ number)) r) (sym (weighed-some ne))
-      (following-gives (unfit Mul weight number ∷ []) (unfit Add sum (weight *ℚ number) ∷ []) (sum +ℚ (weight *ℚ number)) r (one-fits (unfit Mul weight number) fits)
-      (subst (λ p. StepsGive (unfit Add sum p ∷ []) (sum +ℚ p) r) is (added-gives sum product r value added step refused)))
+      (following-gives (step_of Mul weight number ∷ []) (step_of Add sum (weight *ℚ number) ∷ []) (sum +ℚ (weight *ℚ number)) r (one-fits (step_of Mul weight number) fits)
+      (subst (λ p. StepsGive (step_of Add sum p ∷ []) (sum +ℚ p) r) is (added-gives sum product r value added step refused)))

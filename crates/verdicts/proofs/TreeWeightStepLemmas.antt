@@ -6,7 +6,7 @@ use Rattle.std.proofs.lemmas.Bool.Decides.{Decides-ltb}
 use Rattle.std.proofs.lemmas.List.{get_or_default, get_or-set_same, get_or-set_other}
 use Rattle.std.proofs.lemmas.List.Elements.{All-nil}
 use Rattle.rational.specs.Rational.{ℚ, ◌*ℚ◌, zero_ℚ}
-use Rattle.frac128.specs.Steps.{MulFits, unfit, Step, StepFits, StepsGive}
+use Rattle.frac128.specs.Steps.{MulFits, step_of, Step, StepFits, StepsGive}
 use Rattle.frac128.specs.declared.steps.Op.TheVariants.{Mul}
 use Rattle.frac128.specs.declared.steps.Unfit.{Unfit}
 use Rattle.game_theory.specs.Trees.{Tree, IsTree}
@@ -20,7 +20,7 @@ use Rattle.verdicts.specs.TreeWeights.{AreWeights}
 module _ (t : Tree) (b : Behaviour) (i c s : ℕ) (w : IsTree t) (p : 0 < c) (l : c < t.size) (e : t.set (t.parent c) ≡ Some s) where
   -- the step by whether there is a factor
   abbrev step_if : Bool → List Step
-  step_if x = if x then unfit Mul (weight t b i (t.parent c)) (branch_probability t b c) ∷ [] else []
+  step_if x = if x then step_of Mul (weight t b i (t.parent c)) (branch_probability t b c) ∷ [] else []
 
   step-is : (x : Bool) → has_factor t i (Some s) ≡ x → weight_step t b i c ≡ step_if x
   step-is x h = ap step_if (ap₂ (λ y z. y && z) ((Decides-ltb 0 c).1 p) (ap (has_factor t i) e ∙ h))
@@ -31,10 +31,10 @@ module _ (t : Tree) (b : Behaviour) (i c s : ℕ) (w : IsTree t) (p : 0 < c) (l 
 
   -- after any other it has the factor
   pub weight-more : (wt prob : ℚ) (r : Result ℚ Unfit) → t.owner s ≢ Some i → wt ≡ weight t b i (t.parent c) → prob ≡ action_probability t b s (t.branch c)
-      → IfOk r (λ f. f ≡ wt *ℚ prob) → OnOk r (MulFits wt prob) → IfErr r (λ u. u ≡ unfit Mul wt prob) → OnErr r (MulFits wt prob → ⊥) → StepsGive (weight_step t b i c) (weight t b i c) r
+      → IfOk r (λ f. f ≡ wt *ℚ prob) → OnOk r (MulFits wt prob) → IfErr r (λ u. u ≡ step_of Mul wt prob) → OnErr r (MulFits wt prob → ⊥) → StepsGive (weight_step t b i c) (weight t b i c) r
   weight-more wt prob r o weight_is prob_is value fits step refused =
       let prob_of : prob ≡ branch_probability t b c = prob_is ∙ sym (branch-at t b c s e) in
-      let steps : weight_step t b i c ≡ unfit Mul (weight t b i (t.parent c)) (branch_probability t b c) ∷ [] = step-is true (if_other t i s false true o) in
+      let steps : weight_step t b i c ≡ step_of Mul (weight t b i (t.parent c)) (branch_probability t b c) ∷ [] = step-is true (if_other t i s false true o) in
       rw (steps, weight-other t b i c s w p l e o, ← weight_is, ← prob_of) (product-gives wt prob r value fits step refused)
 
 -- the weight of the parent is known

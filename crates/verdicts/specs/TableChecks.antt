@@ -1,11 +1,11 @@
 -- Whether a mixed profile of a table is an equilibrium, and the steps of arithmetic in which that
 -- is tested. Source: Nash 1951.
-use Rattle.std.specs.Prelude.{ℕ, suc, ◌<◌, ◌≡◌, ◌==◌, if◌then◌else◌, List, [], ◌∷◌, ◌++◌, length, slice_index, All, Option, Some, None}
-use Rattle.std.specs.List.{range_with_len, flat_map}
+use Rattle.std.specs.Prelude.{ℕ, ◌<◌, ◌≡◌, ◌==◌, not, if◌then◌else◌, List, [], ◌∷◌, ◌++◌, length, map, slice_index, All, Option, Some, None}
+use Rattle.std.specs.List.{filter, flat_map, range_with_len}
 use Rattle.rational.specs.Rational.{ℚ, ◌*ℚ◌, ◌≤ℚ◌, ◌<ℚ◌, zero_ℚ, one_ℚ}
 use Rattle.rational.specs.Sum.{sum_to}
 use Rattle.rational.specs.Tests.{eq_ℚ}
-use Rattle.frac128.specs.Steps.{unfit, Step, StepFits, IsFirstUnfit}
+use Rattle.frac128.specs.Steps.{step_of, Step, StepFits, IsFirstUnfit}
 use Rattle.frac128.specs.declared.steps.Op.TheVariants.{Add, Mul}
 use Rattle.game_theory.specs.Profiles.{Game, profile_count, profile_at}
 use Rattle.game_theory.specs.Mixed.{Mixed, payoff as payoff_of}
@@ -20,22 +20,18 @@ use Rattle.verdicts.specs.declared.tables.TableVerdict.TheVariants.{Equilibrium,
 -- a number is multiplied by each factor in order
 abbrev pub product_steps : ℚ → List ℚ → List Step
 product_steps p [] = []
-product_steps p (q ∷ qs) = unfit Mul p q ∷ product_steps (p *ℚ q) qs
+product_steps p (q ∷ qs) = step_of Mul p q ∷ product_steps (p *ℚ q) qs
 
 -- the product of a weight and a number is added to a sum, where the weight is not 0
 abbrev pub weighed_steps : ℚ → ℚ → ℚ → List Step
 weighed_steps w number sum =
-    if eq_ℚ w zero_ℚ then [] else unfit Mul w number ∷ unfit Add sum (w *ℚ number) ∷ []
+    if eq_ℚ w zero_ℚ then [] else step_of Mul w number ∷ step_of Add sum (w *ℚ number) ∷ []
 
--- the probabilities with which players j and later, other than i, play their strategies
-abbrev pub others_from : Mixed → ℕ → ℕ → List ℕ → List ℚ
-others_from m i j [] = []
-others_from m i j (s ∷ strategies) =
-    (if j == i then [] else m j s ∷ []) ++ others_from m i (suc j) strategies
-
--- those with which the players other than i play a profile
+-- the probabilities with which the players other than i play a profile, in order
 abbrev pub others_probabilities : Mixed → ℕ → List ℕ → List ℚ
-others_probabilities m i profile = others_from m i 0 profile
+others_probabilities m i profile =
+    map (λ j. m j (slice_index profile j))
+    (filter (λ j. not (j == i)) (range_with_len 0 (length profile)))
 
 -- those are multiplied, from 1 on
 abbrev pub weight_steps : Mixed → ℕ → List ℕ → List Step
@@ -52,13 +48,10 @@ abbrev pub steps_at : Game → Mixed → ℕ → ℕ → ℕ → List Step
 steps_at g m i s k =
     if slice_index (profile_at g.strategies k) i == s then profile_steps g m i s k else []
 
--- the steps at n profiles from one on
-abbrev pub block_steps : Game → Mixed → ℕ → ℕ → ℕ → ℕ → List Step
-block_steps g m i s first n = flat_map (steps_at g m i s) (range_with_len first n)
-
 -- the steps of what strategy s is worth: those at all profiles, in table order
 abbrev pub strategy_steps : Game → Mixed → ℕ → ℕ → List Step
-strategy_steps g m i s = block_steps g m i s 0 (profile_count g.strategies)
+strategy_steps g m i s =
+    flat_map (steps_at g m i s) (range_with_len 0 (profile_count g.strategies))
 
 -- what the first n strategies of player i add to the payoff
 abbrev pub payoff_below : Game → Mixed → ℕ → ℕ → ℚ

@@ -3,7 +3,7 @@ use Rattle.std.specs.Prelude.{ℕ, zero, suc, ◌&&◌, nat_lt, Bool, true, fals
 use Rattle.std.specs.List.{flat_map, range_with_len}
 use Rattle.rational.specs.Rational.{ℚ, ◌*ℚ◌, zero_ℚ}
 use Rattle.rational.specs.Sum.{sum_to}
-use Rattle.frac128.specs.Steps.{unfit, Step}
+use Rattle.frac128.specs.Steps.{step_of, Step}
 use Rattle.frac128.specs.declared.steps.Op.TheVariants.{Add, Mul}
 use Rattle.game_theory.specs.Trees.{Tree}
 use Rattle.game_theory.specs.Behaviour.{Behaviour, action_probability, branch_probability, is_own, value}
@@ -14,17 +14,24 @@ use Rattle.best_replies.specs.Reaching.{weight}
 use Rattle.best_replies.specs.Replies.{reply_value}
 
 -- ---- what the behaviour pays
--- the steps at a node by its set: none at an end, and else those of the sum over the actions, and
--- last the addition of this to what the outcome pays
+-- the steps of what comes after a node of set s, and its value: the sum over the actions
+abbrev pub now_steps_after : Tree → Behaviour → ℕ → (ℕ → List Step) → ℕ → ℕ → List Step
+now_steps_after t b i later k s =
+    chance_steps (t.actions s) (action_probability t b s) (λ a. value t b i (child t k a))
+    (λ a. later (child t k a))
+
+abbrev pub now_value_after : Tree → Behaviour → ℕ → ℕ → ℕ → ℚ
+now_value_after t b i k s =
+    sum_to (t.actions s) (λ a. action_probability t b s a *ℚ value t b i (child t k a))
+
+-- the steps at a node by its set: none at an end, and else those of what comes after it, and last
+-- the addition of this to what the outcome pays
 abbrev pub now_node_steps : Tree → Behaviour → ℕ → (ℕ → List Step) → ℕ → Option ℕ → List Step
 now_node_steps t b i later k None = []
 now_node_steps t b i later k (Some s) =
-    chance_steps (t.actions s) (action_probability t b s) (λ a. value t b i (child t k a))
-    (λ a. later (child t k a))
-    ++ unfit Add (t.pays k i)
-    (sum_to (t.actions s) (λ a. action_probability t b s a *ℚ value t b i (child t k a))) ∷ []
+    now_steps_after t b i later k s ++ step_of Add (t.pays k i) (now_value_after t b i k s) ∷ []
 
--- the steps of node k's value, where what lies more than d edges below has none
+-- the steps of node k's value, where what lies d edges or more below has none
 abbrev pub now_steps_to : Tree → Behaviour → ℕ → ℕ → ℕ → List Step
 now_steps_to t b i zero k = []
 now_steps_to t b i (suc d) k = now_node_steps t b i (now_steps_to t b i d) k (t.set k)
@@ -43,7 +50,7 @@ has_factor t i (Some s) = if is_own t i s then false else true
 abbrev pub weight_step : Tree → Behaviour → ℕ → ℕ → List Step
 weight_step t b i c =
     if nat_lt 0 c && has_factor t i (t.set (t.parent c))
-    then unfit Mul (weight t b i (t.parent c)) (branch_probability t b c) ∷ [] else []
+    then step_of Mul (weight t b i (t.parent c)) (branch_probability t b c) ∷ [] else []
 
 -- the steps of all weights, in the order of the nodes
 abbrev pub weight_steps : Tree → Behaviour → ℕ → List Step
@@ -52,12 +59,20 @@ weight_steps t b i = flat_map (weight_step t b i) (range_with_len 0 t.size)
 -- ---- reply values
 -- a sum from 0 over the first n numbers in order, each added as soon as it is computed
 abbrev pub sum_steps : ℕ → (ℕ → ℚ) → (ℕ → List Step) → List Step
-sum_steps zero v later = []
-sum_steps (suc n) v later = sum_steps n v later ++ later n ++ unfit Add (sum_to n v) (v n) ∷ []
+sum_steps n v later =
+    flat_map (λ k. later k ++ step_of Add (sum_to k v) (v k) ∷ []) (range_with_len 0 n)
 
 -- the reply value of the node to which an action leads
 abbrev pub child_value : Tree → Behaviour → ℕ → (ℕ → ℕ) → ℕ → ℕ → ℚ
 child_value t b i choice k a = reply_value t b i choice (child t k a)
+
+-- the steps of the sum of the reply values of all children of a node of set s, and the sum
+abbrev pub children_steps : Tree → Behaviour → ℕ → (ℕ → ℕ) → (ℕ → List Step) → ℕ → ℕ → List Step
+children_steps t b i choice later k s =
+    sum_steps (t.actions s) (child_value t b i choice k) (λ a. later (child t k a))
+
+abbrev pub children_sum : Tree → Behaviour → ℕ → (ℕ → ℕ) → ℕ → ℕ → ℚ
+children_sum t b i choice k s = sum_to (t.actions s) (child_value t b i choice k)
 
 -- The steps of the sum of the reply values after a node, by its set. At an own node only the
 -- chosen child counts, and its reply value was computed when the set was decided.
@@ -65,22 +80,22 @@ abbrev pub after_steps : Tree → Behaviour → ℕ → (ℕ → ℕ) → (ℕ �
     → List Step
 after_steps t b i choice later k None = []
 after_steps t b i choice later k (Some s) =
-    if is_own t i s then unfit Add zero_ℚ (child_value t b i choice k (choice s)) ∷ []
-    else sum_steps (t.actions s) (child_value t b i choice k) (λ a. later (child t k a))
+    if is_own t i s then step_of Add zero_ℚ (child_value t b i choice k (choice s)) ∷ []
+    else children_steps t b i choice later k s
 
 -- that sum
 abbrev pub after_sum : Tree → Behaviour → ℕ → (ℕ → ℕ) → ℕ → Option ℕ → ℚ
 after_sum t b i choice k None = zero_ℚ
 after_sum t b i choice k (Some s) =
     if is_own t i s then child_value t b i choice k (choice s)
-    else sum_to (t.actions s) (child_value t b i choice k)
+    else children_sum t b i choice k s
 
 -- a node's own two steps: what its outcome pays by its weight, and the addition of this to the sum
 abbrev pub own_steps : Tree → Behaviour → ℕ → ℕ → ℚ → List Step
 own_steps t b i k sum =
-    unfit Mul (weight t b i k) (t.pays k i) ∷ unfit Add (weight t b i k *ℚ t.pays k i) sum ∷ []
+    step_of Mul (weight t b i k) (t.pays k i) ∷ step_of Add (weight t b i k *ℚ t.pays k i) sum ∷ []
 
--- the steps of node k's reply value, where what lies more than d edges below has none
+-- the steps of node k's reply value, where what lies d edges or more below has none
 abbrev pub reply_steps_to : Tree → Behaviour → ℕ → (ℕ → ℕ) → ℕ → ℕ → List Step
 reply_steps_to t b i choice zero k = []
 reply_steps_to t b i choice (suc d) k =

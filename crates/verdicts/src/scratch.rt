@@ -3,7 +3,7 @@ ghost use Rattle.std.specs.Prelude.{◌≡◌, ◌+◌, ◌*◌, ◌<◌, ◌≤
 ghost use Rattle.game_core.specs.TreeGame.{game_of_tree};
 
 use crate::trees_board::Board;
-use crate::trees_player::{check_player, write_reply};
+use crate::trees_player::{PlayerPayoffs, check_player, write_reply};
 use behaviour_profile::starts_of;
 use frac128::{Frac, Memory, Unfit};
 use game_core::Tree;
@@ -95,7 +95,7 @@ impl Scratch {
         tree: &Tree,
         entries: &[Frac],
         player: u32,
-    ) -> Result<(Frac, Frac), Unfit>
+    ) -> Result<PlayerPayoffs, Unfit>
         requires scratch { IsScratchOf tree.now self.old }
         requires entries { AreBehaviourEntries tree.now entries.now }
         requires player { player < length tree.now.players }
@@ -105,7 +105,8 @@ impl Scratch {
             entries.now ≡ tree_entries t b → AscendOnPaths t player
             → AreBestChoices t b player choice
             → MatchResult result
-            (λ pays. (pays.0 ≡ payoff t b player) × (pays.1 ≡ reply_value t b player choice 0)
+            (λ pays. (pays.payoff ≡ payoff t b player)
+            × (pays.best ≡ reply_value t b player choice 0)
             × All StepFits (player_steps t b player choice)
             × AreChosen t player choice (choices_of self.new))
             (IsFirstUnfit (player_steps t b player choice)) }

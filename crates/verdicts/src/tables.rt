@@ -1,10 +1,28 @@
 // Whether a mixed profile of a table is an equilibrium.
-ghost use Rattle.std.specs.Prelude.{◌≡◌, ◌+◌, ◌*◌, ◌<◌, ◌≤◌, ℕ, All, length, sum, slice_index, take, IfOk, IfErr, OnOk};
-ghost use Rattle.rational.specs.Rational.{◌+ℚ◌, ◌*ℚ◌};
+ghost use Rattle.std.specs.Prelude.{
+  ◌≡◌,
+  ◌+◌,
+  ◌*◌,
+  ◌<◌,
+  ◌≤◌,
+  ◌++◌,
+  ℕ,
+  List,
+  All,
+  length,
+  sum,
+  slice_index,
+  take,
+  IfOk,
+  IfErr,
+  OnOk,
+};
+ghost use Rattle.std.specs.List.{flat_map, range_with_len};
+ghost use Rattle.rational.specs.Rational.{ℚ, ◌+ℚ◌, ◌*ℚ◌};
 ghost use Rattle.game_theory.specs.Mixed.{payoff as payoff_of};
 ghost use Rattle.game_theory.specs.Profiles.{profile_at, profile_count};
 ghost use Rattle.game_core.specs.Table.{IsTable, game_of, strategy_counts};
-ghost use Rattle.frac128.specs.Steps.{IsFirstUnfit, StepFits, StepsGive};
+ghost use Rattle.frac128.specs.Steps.{IsFirstUnfit, Step, StepFits, StepsGive};
 ghost use Rattle.best_replies.specs.Strategies.{
   IsBestStrategy,
   strategy_value as value_of,
@@ -15,9 +33,9 @@ ghost use Rattle.behaviour_profile.specs.EntryTests.{mixed_of};
 ghost use Rattle.verdicts.specs.TableLaws.{TableVerdictsAreSingle, TableVerdictsFindEquilibria};
 ghost use Rattle.verdicts.specs.TableChecks.{
   IsFound,
-  block_steps,
   payoff_steps,
   player_steps,
+  steps_at,
   strategy_steps,
   table_verdict,
   value_steps,
@@ -57,6 +75,15 @@ pub enum TableVerdict {
 struct Worth {
     strategy: u32,
     value: Frac,
+}
+
+// What a player's strategies come to.
+#[derive(Clone, Copy)]
+struct Tally {
+    // The first of the best.
+    best: Worth,
+    // What the profile pays the player, or its first step that does not fit.
+    payoff: Result<Frac, Unfit>,
 }
 
 // A strategy that is worth more than the payoff.
@@ -134,7 +161,8 @@ fn add_profiles(
     ensures { let m = mixed_of (strategy_counts table.now) mixed.now in
         let g = game_of table.now in
         let value = value_below g m player strategy (first + count) in
-        StepsGive (block_steps g m player strategy first count) value result }
+        let steps = flat_map (steps_at g m player strategy) (range_with_len first count) in
+        StepsGive steps value result }
 {
     let mut value = so_far;
     for profile in first..first + count {
@@ -169,54 +197,49 @@ fn strategy_value(
     Ok(value)
 }
 
-// The first of a player's best strategies.
-fn best_strategy(table: &Table, mixed: &Mixed, player: usize) -> Result<Worth, Unfit>
+// Adds the product of a weight and a number to a sum. A sum that is an error stays that error.
+fn with_share(sum: Result<Frac, Unfit>, weight: Frac, number: Frac) -> Result<Frac, Unfit>
+    ensures { (steps : List Step) (so_far : ℚ) → StepsGive steps so_far sum
+        → StepsGive (steps ++ weighed_steps weight number so_far)
+        (so_far +ℚ (weight *ℚ number)) result }
+{
+    add_weighed(sum?, weight, number)
+}
+
+// The first of a player's best strategies, and what the profile pays the player.
+fn tally_strategies(table: &Table, mixed: &Mixed, player: usize) -> Result<Tally, Unfit>
     requires entries { length mixed.now ≡ sum (strategy_counts table.now) }
     requires player { player < length table.now.players }
     ensures best { let m = mixed_of (strategy_counts table.now) mixed.now in
-        IfOk result (λ best. IsBestStrategy (game_of table.now) m player best.strategy) }
+        IfOk result (λ tally. IsBestStrategy (game_of table.now) m player tally.best.strategy) }
     ensures value { let m = mixed_of (strategy_counts table.now) mixed.now in
-        IfOk result (λ best. best.value ≡ value_of (game_of table.now) m player best.strategy) }
+        let g = game_of table.now in
+        IfOk result (λ tally. tally.best.value ≡ value_of g m player tally.best.strategy) }
+    ensures payoff { let m = mixed_of (strategy_counts table.now) mixed.now in
+        let g = game_of table.now in
+        IfOk result
+        (λ tally. StepsGive (payoff_steps g m player) (payoff_of g m player) tally.payoff) }
     ensures fits { let m = mixed_of (strategy_counts table.now) mixed.now in
         OnOk result (All StepFits (value_steps (game_of table.now) m player)) }
     ensures unfit { let m = mixed_of (strategy_counts table.now) mixed.now in
         IfErr result (IsFirstUnfit (value_steps (game_of table.now) m player)) }
 {
     let count = table.strategy_count(player);
-    let mut best = strategy_value(table, mixed, player, 0)?;
-    let mut reply = 0;
+    let first = first_entry(table, player);
+    let value = strategy_value(table, mixed, player, 0)?;
+    let mut best = Worth { strategy: 0, value };
+    let mut payoff = with_share(Ok(Frac::zero()), mixed.entries()[first], value);
     for strategy in 1..count {
         let value = strategy_value(table, mixed, player, strategy)?;
-        if best.is_less(value) {
-            best = value;
-            reply = strategy as u32;
+        payoff = with_share(payoff, mixed.entries()[first + strategy], value);
+        if best.value.is_less(value) {
+            best = Worth {
+                strategy: strategy as u32,
+                value,
+            };
         }
     }
-    Ok(Worth {
-        strategy: reply,
-        value: best,
-    })
-}
-
-// What a profile pays a player. Each strategy's value is computed again, since there is no room in
-// which to keep it; all its steps are known to fit.
-fn payoff(table: &Table, mixed: &Mixed, player: usize) -> Result<Frac, Unfit>
-    requires entries { length mixed.now ≡ sum (strategy_counts table.now) }
-    requires player { player < length table.now.players }
-    requires fit { let m = mixed_of (strategy_counts table.now) mixed.now in
-        All StepFits (value_steps (game_of table.now) m player) }
-    ensures { let m = mixed_of (strategy_counts table.now) mixed.now in
-        let g = game_of table.now in
-        StepsGive (payoff_steps g m player) (payoff_of g m player) result }
-{
-    let first = first_entry(table, player);
-    let mut payoff = Frac::zero();
-    for strategy in 0..table.strategy_count(player) {
-        let probability = mixed.entries()[first + strategy];
-        let value = strategy_value(table, mixed, player, strategy)?;
-        payoff = add_weighed(payoff, probability, value)?;
-    }
-    Ok(payoff)
+    Ok(Tally { best, payoff })
 }
 
 // A player's best strategy, if it is worth more than the payoff.
@@ -228,8 +251,8 @@ fn better_reply(table: &Table, mixed: &Mixed, player: usize) -> Result<Option<Be
     ensures unfit { let m = mixed_of (strategy_counts table.now) mixed.now in
         IfErr result (IsFirstUnfit (player_steps (game_of table.now) m player)) }
 {
-    let best = best_strategy(table, mixed, player)?;
-    let payoff = payoff(table, mixed, player)?;
+    let Tally { best, payoff } = tally_strategies(table, mixed, player)?;
+    let payoff = payoff?;
     if payoff.is_less(best.value) {
         Ok(Some(BetterReply {
             payoff,

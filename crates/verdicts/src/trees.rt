@@ -10,6 +10,7 @@ ghost use Rattle.verdicts.specs.TreeVerdictLaws.{
 };
 
 use crate::scratch::Scratch;
+use crate::trees_player::PlayerPayoffs;
 use behaviour_profile::Behaviour;
 use frac128::{Frac, Unfit};
 use game_core::tree_parts::stands_for_game_tree;
@@ -59,7 +60,7 @@ pub fn check_tree(
         let player = player as u32;
         match scratch.check(tree, entries, player) {
             Err(unfit) => return TreeVerdict::Range { unfit },
-            Ok((payoff, best)) => {
+            Ok(PlayerPayoffs { payoff, best }) => {
                 if payoff.is_less(best) {
                     scratch.keep_reply(tree, player);
                     return TreeVerdict::Better {

@@ -27,8 +27,14 @@ impl<'a> Board<'a> {
     ghost use Rattle.pure_payoffs.specs.Steps.{branch_steps};
     ghost use Rattle.frac128.specs.Steps.{StepFits, IsFirstUnfit, StepsGive};
     ghost use Rattle.best_replies.specs.Reaching.{weight};
-    ghost use Rattle.verdicts.specs.TreeBoards.{IsOnBoard, Reads, game_of, now_steps_after, now_value_after};
-    ghost use Rattle.verdicts.specs.TreeSteps.{now_steps_at, weight_step, weight_steps};
+    ghost use Rattle.verdicts.specs.TreeBoards.{IsOnBoard, Reads, game_of};
+    ghost use Rattle.verdicts.specs.TreeSteps.{
+      now_steps_after,
+      now_steps_at,
+      now_value_after,
+      weight_step,
+      weight_steps,
+    };
     ghost use Rattle.verdicts.specs.TreeWeights.{AreWeights};
 
     /// The probability of an action at a set.
@@ -73,8 +79,8 @@ impl<'a> Board<'a> {
         requires player { player < length self.now.tree.now.players }
         requires set { (game_of self.now).set node ≡ Some set }
         ensures { (b : Behaviour) → Reads self.now b → let t = game_of self.now in
-            StepsGive (now_steps_after t b player node set) (now_value_after t b player node set)
-            result }
+            let steps = now_steps_after t b player (now_steps_at t b player) node set in
+            StepsGive steps (now_value_after t b player node set) result }
     {
         let mut sum = Frac::zero();
         for action in 0..action_count(self.tree, set) {

@@ -16,6 +16,15 @@ use frac128::{Frac, Unfit};
 use game_core::Tree;
 use game_core::tree_parts::is_own;
 
+/// What a player gets.
+#[derive(Clone, Copy)]
+pub(crate) struct PlayerPayoffs {
+    /// What the behaviour pays.
+    pub(crate) payoff: Frac,
+    /// What the player's best choices pay.
+    pub(crate) best: Frac,
+}
+
 // What a player's best choices pay; writes these at the player's sets.
 fn best_payoff(
     board: &Board,
@@ -55,7 +64,7 @@ pub(crate) fn check_player(
     weights: &mut [Frac],
     choices: &mut [u32],
     values: &mut [Frac],
-) -> Result<(Frac, Frac), Unfit>
+) -> Result<PlayerPayoffs, Unfit>
     requires board { IsOnBoard board.now }
     requires player { player < length board.now.tree.now.players }
     requires weights { length weights.old ≡ length board.now.tree.now.nodes }
@@ -64,13 +73,13 @@ pub(crate) fn check_player(
     ensures { (b : Behaviour) (choice : ℕ → ℕ) → let t = game_of board.now in
         Reads board.now b → AscendOnPaths t player → AreBestChoices t b player choice
         → MatchResult result
-        (λ pays. (pays.0 ≡ payoff t b player) × (pays.1 ≡ reply_value t b player choice 0)
+        (λ pays. (pays.payoff ≡ payoff t b player) × (pays.best ≡ reply_value t b player choice 0)
         × All StepFits (player_steps t b player choice) × AreChosen t player choice choices.new)
         (IsFirstUnfit (player_steps t b player choice)) }
 {
     let payoff = board.value(player, 0)?;
     let best = best_payoff(board, player, weights, choices, values)?;
-    Ok((payoff, best))
+    Ok(PlayerPayoffs { payoff, best })
 }
 
 // Writes the choices at a player's own sets in order, and tells how many.

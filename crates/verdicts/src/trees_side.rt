@@ -42,12 +42,12 @@ impl<'a> Side<'a> {
       OwnSetsFrom,
       after_steps_at,
       after_sum_at,
-      children_steps,
-      children_sum,
       game_at,
     };
     ghost use Rattle.verdicts.specs.TreeSteps.{
       action_steps,
+      children_steps,
+      children_sum,
       decision_steps,
       decisions,
       reply_steps,
@@ -118,8 +118,8 @@ impl<'a> Side<'a> {
             let i = self.now.player in
             AreDecided t b i choice self.now.weights.now choices.now values.now first 0
             → OwnSetsFrom t i node first
-            → StepsGive (children_steps t b i choice node set) (children_sum t b i choice node set)
-            result }
+            → StepsGive (children_steps t b i choice (reply_steps t b i choice) node set)
+            (children_sum t b i choice node set) result }
     {
         let mut sum = Frac::zero();
         for action in 0..action_count(self.tree, set) {

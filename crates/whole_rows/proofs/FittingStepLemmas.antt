@@ -12,7 +12,7 @@ use Rattle.frac128.specs.declared.steps.Unfit.{Unfit}
 use Rattle.frac128.specs.Fraction.{PartFits, Fits}
 use Rattle.frac128.specs.Steps.{num_beside, StepFits, IsFirstUnfit}
 use Rattle.frac128.proofs.StepRunLemmas.{three-fit, first_unfit-next, first_unfit-same}
-use Rattle.whole_rows.specs.Steps.{times, less}
+use Rattle.whole_rows.specs.Steps.{product_step, difference_step}
 
 one_fits : (n : ℕ) → n ≡ 1 → PartFits (pos n)
 one_fits n e = omega (arith, e)
@@ -20,7 +20,7 @@ one_fits n e = omega (arith, e)
 pub whole_fits : (n : ℤ) → PartFits n ↔ Fits (whole n)
 whole_fits n = (λ h. record { num = subst PartFits (sym (whole-num n)) h; den = one_fits (whole n).den (whole-den n) }, λ h. subst PartFits (whole-num n) h.num)
 
-pub times_fits : (a b : ℤ) → PartFits (a *ℤ b) ↔ StepFits (times a b)
+pub times_fits : (a b : ℤ) → PartFits (a *ℤ b) ↔ StepFits (product_step a b)
 times_fits a b = subst (λ q. PartFits (a *ℤ b) ↔ Fits q) (whole-mul a b) (whole_fits (a *ℤ b))
 
 pub whole-sub : (a b : ℤ) → whole a -ℚ whole b ≡ whole (a -ℤ b)
@@ -33,36 +33,36 @@ one_gcd d e p q = ap₂ (λ x y. y / gcd x y) p q
 beside : (a b : ℤ) → num_beside (whole a) (whole b) ≡ a
 beside a b = ap₂ (λ x y. x *ℤ pos y) (whole-num a) (one_gcd _ _ (whole-den a) (whole-den b)) ∙ ring integer_ring (a ∷ []) (A :* num 1) A refl
 
-pub less_fits : (a b : ℤ) → PartFits a → PartFits b → PartFits (a -ℤ b) ↔ StepFits (less a b)
+pub less_fits : (a b : ℤ) → PartFits a → PartFits b → PartFits (a -ℤ b) ↔ StepFits (difference_step a b)
 less_fits a b ha hb = (λ h. record { left = subst PartFits (sym (beside a b)) ha; right = subst PartFits (sym (beside b a)) hb; top = subst PartFits (sym (ap₂ (λ x y. x -ℤ y) (beside a b) (beside b a))) h; den = one_fits _ (ap (λ (q : ℚ). q.den) (whole-sub a b) ∙ whole-den (a -ℤ b)) }, λ h. subst PartFits (ap₂ (λ x y. x -ℤ y) (beside a b) (beside b a)) h.top)
 
 -- a product or a difference that does not fit, as the first step that does not
-pub first_unfit : (a u b v : ℤ) (e : Unfit) → ¬ (PartFits (a *ℤ u)) → e ≡ times a u → IsFirstUnfit (times a u ∷ times b v ∷ less (a *ℤ u) (b *ℤ v) ∷ []) e
-first_unfit a u b v e h is = first_unfit-same (times a u) (times b v ∷ less (a *ℤ u) (b *ℤ v) ∷ []) e (λ f. h ((times_fits a u).1 f)) is
+pub first_unfit : (a u b v : ℤ) (e : Unfit) → ¬ (PartFits (a *ℤ u)) → e ≡ product_step a u → IsFirstUnfit (product_step a u ∷ product_step b v ∷ difference_step (a *ℤ u) (b *ℤ v) ∷ []) e
+first_unfit a u b v e h is = first_unfit-same (product_step a u) (product_step b v ∷ difference_step (a *ℤ u) (b *ℤ v) ∷ []) e (λ f. h ((times_fits a u).1 f)) is
 
-pub second_unfit : (a u b v x : ℤ) (e : Unfit) → (x ≡ a *ℤ u) × PartFits x → ¬ (PartFits (b *ℤ v)) → e ≡ times b v → IsFirstUnfit (times a u ∷ times b v ∷ less (a *ℤ u) (b *ℤ v) ∷ []) e
+pub second_unfit : (a u b v x : ℤ) (e : Unfit) → (x ≡ a *ℤ u) × PartFits x → ¬ (PartFits (b *ℤ v)) → e ≡ product_step b v → IsFirstUnfit (product_step a u ∷ product_step b v ∷ difference_step (a *ℤ u) (b *ℤ v) ∷ []) e
 second_unfit a u b v x e g h is =
-    first_unfit-next (times a u) (times b v ∷ less (a *ℤ u) (b *ℤ v) ∷ []) e ((times_fits a u).0 (subst PartFits g.0 g.1)) (first_unfit-same (times b v) (less (a *ℤ u) (b *ℤ v) ∷ []) e (λ f. h ((times_fits b v).1 f)) is)
+    first_unfit-next (product_step a u) (product_step b v ∷ difference_step (a *ℤ u) (b *ℤ v) ∷ []) e ((times_fits a u).0 (subst PartFits g.0 g.1)) (first_unfit-same (product_step b v) (difference_step (a *ℤ u) (b *ℤ v) ∷ []) e (λ f. h ((times_fits b v).1 f)) is)
 
-pub all_fit : (a u b v : ℤ) → PartFits (a *ℤ u) → PartFits (b *ℤ v) → PartFits ((a *ℤ u) -ℤ (b *ℤ v)) → All StepFits (times a u ∷ times b v ∷ less (a *ℤ u) (b *ℤ v) ∷ [])
-all_fit a u b v f g h = (three-fit (times a u) (times b v) (less (a *ℤ u) (b *ℤ v))).1 ((times_fits a u).0 f, (times_fits b v).0 g, (less_fits (a *ℤ u) (b *ℤ v) f g).0 h)
+pub all_fit : (a u b v : ℤ) → PartFits (a *ℤ u) → PartFits (b *ℤ v) → PartFits ((a *ℤ u) -ℤ (b *ℤ v)) → All StepFits (product_step a u ∷ product_step b v ∷ difference_step (a *ℤ u) (b *ℤ v) ∷ [])
+all_fit a u b v f g h = (three-fit (product_step a u) (product_step b v) (difference_step (a *ℤ u) (b *ℤ v))).1 ((times_fits a u).0 f, (times_fits b v).0 g, (less_fits (a *ℤ u) (b *ℤ v) f g).0 h)
 
-pub third_unfit : (a u b v x y : ℤ) (e : Unfit) → ¬ (All StepFits (times a u ∷ times b v ∷ less (a *ℤ u) (b *ℤ v) ∷ [])) → (x ≡ a *ℤ u) × PartFits x → (y ≡ b *ℤ v) × PartFits y → e ≡ less x y → IsFirstUnfit (times a u ∷ times b v ∷ less (a *ℤ u) (b *ℤ v) ∷ []) e
+pub third_unfit : (a u b v x y : ℤ) (e : Unfit) → ¬ (All StepFits (product_step a u ∷ product_step b v ∷ difference_step (a *ℤ u) (b *ℤ v) ∷ [])) → (x ≡ a *ℤ u) × PartFits x → (y ≡ b *ℤ v) × PartFits y → e ≡ difference_step x y → IsFirstUnfit (product_step a u ∷ product_step b v ∷ difference_step (a *ℤ u) (b *ℤ v) ∷ []) e
 third_unfit a u b v x y e h p q is =
     let f = subst PartFits p.0 p.1 in let g = subst PartFits q.0 q.1 in
-    first_unfit-next (times a u) (times b v ∷ less (a *ℤ u) (b *ℤ v) ∷ []) e ((times_fits a u).0 f) (first_unfit-next (times b v) (less (a *ℤ u) (b *ℤ v) ∷ []) e ((times_fits b v).0 g)
-    (first_unfit-same (less (a *ℤ u) (b *ℤ v)) [] e (λ k. h ((three-fit (times a u) (times b v) (less (a *ℤ u) (b *ℤ v))).1 ((times_fits a u).0 f, (times_fits b v).0 g, k))) (is ∙ ap₂ less p.0 q.0)))
+    first_unfit-next (product_step a u) (product_step b v ∷ difference_step (a *ℤ u) (b *ℤ v) ∷ []) e ((times_fits a u).0 f) (first_unfit-next (product_step b v) (difference_step (a *ℤ u) (b *ℤ v) ∷ []) e ((times_fits b v).0 g)
+    (first_unfit-same (difference_step (a *ℤ u) (b *ℤ v)) [] e (λ k. h ((three-fit (product_step a u) (product_step b v) (difference_step (a *ℤ u) (b *ℤ v))).1 ((times_fits a u).0 f, (times_fits b v).0 g, k))) (is ∙ ap₂ difference_step p.0 q.0)))
 
 -- what is told by the three numbers
-pub told : (a u b v x y : ℤ) (o : Option ℤ) → (x ≡ a *ℤ u) × PartFits x → (y ≡ b *ℤ v) × PartFits y → MatchOption o (¬ (PartFits (x -ℤ y))) (λ d. (d ≡ x -ℤ y) × PartFits d) → MatchOption o (¬ (All StepFits (times a u ∷ times b v ∷ less (a *ℤ u) (b *ℤ v) ∷ []))) (λ d. (d ≡ (a *ℤ u) -ℤ (b *ℤ v)) × PartFits d × All StepFits (times a u ∷ times b v ∷ less (a *ℤ u) (b *ℤ v) ∷ []))
-told a u b v x y None p q h = λ f. h (subst PartFits (sym (ap₂ (λ x y. x -ℤ y) p.0 q.0)) ((less_fits (a *ℤ u) (b *ℤ v) (subst PartFits p.0 p.1) (subst PartFits q.0 q.1)).1 ((three-fit (times a u) (times b v) (less (a *ℤ u) (b *ℤ v))).0 f).2))
+pub told : (a u b v x y : ℤ) (o : Option ℤ) → (x ≡ a *ℤ u) × PartFits x → (y ≡ b *ℤ v) × PartFits y → MatchOption o (¬ (PartFits (x -ℤ y))) (λ d. (d ≡ x -ℤ y) × PartFits d) → MatchOption o (¬ (All StepFits (product_step a u ∷ product_step b v ∷ difference_step (a *ℤ u) (b *ℤ v) ∷ []))) (λ d. (d ≡ (a *ℤ u) -ℤ (b *ℤ v)) × PartFits d × All StepFits (product_step a u ∷ product_step b v ∷ difference_step (a *ℤ u) (b *ℤ v) ∷ []))
+told a u b v x y None p q h = λ f. h (subst PartFits (sym (ap₂ (λ x y. x -ℤ y) p.0 q.0)) ((less_fits (a *ℤ u) (b *ℤ v) (subst PartFits p.0 p.1) (subst PartFits q.0 q.1)).1 ((three-fit (product_step a u) (product_step b v) (difference_step (a *ℤ u) (b *ℤ v))).0 f).2))
 told a u b v x y (Some d) p q h = (h.0 ∙ ap₂ (λ x y. x -ℤ y) p.0 q.0, h.1, all_fit a u b v (subst PartFits p.0 p.1) (subst PartFits q.0 q.1) (subst PartFits (h.0 ∙ ap₂ (λ x y. x -ℤ y) p.0 q.0) h.1))
 
-pub not_first : (a u b v : ℤ) → ¬ (PartFits (a *ℤ u)) → All StepFits (times a u ∷ times b v ∷ less (a *ℤ u) (b *ℤ v) ∷ []) → ⊥
-not_first a u b v h f = h ((times_fits a u).1 ((three-fit (times a u) (times b v) (less (a *ℤ u) (b *ℤ v))).0 f).0)
+pub not_first : (a u b v : ℤ) → ¬ (PartFits (a *ℤ u)) → All StepFits (product_step a u ∷ product_step b v ∷ difference_step (a *ℤ u) (b *ℤ v) ∷ []) → ⊥
+not_first a u b v h f = h ((times_fits a u).1 ((three-fit (product_step a u) (product_step b v) (difference_step (a *ℤ u) (b *ℤ v))).0 f).0)
 
-pub not_second : (a u b v : ℤ) → ¬ (PartFits (b *ℤ v)) → All StepFits (times a u ∷ times b v ∷ less (a *ℤ u) (b *ℤ v) ∷ []) → ⊥
-not_second a u b v h f = h ((times_fits b v).1 ((three-fit (times a u) (times b v) (less (a *ℤ u) (b *ℤ v))).0 f).1)
+pub not_second : (a u b v : ℤ) → ¬ (PartFits (b *ℤ v)) → All StepFits (product_step a u ∷ product_step b v ∷ difference_step (a *ℤ u) (b *ℤ v) ∷ []) → ⊥
+not_second a u b v h f = h ((times_fits b v).1 ((three-fit (product_step a u) (product_step b v) (difference_step (a *ℤ u) (b *ℤ v))).0 f).1)
 
 -- what holds of four numbers holds of the same ones
 pub of_same : (P : ℤ → ℤ → ℤ → ℤ → Type 0) (a u b v a' u' b' v' : ℤ) → a ≡ a' → u ≡ u' → b ≡ b' → v ≡ v' → P a u b v → P a' u' b' v'

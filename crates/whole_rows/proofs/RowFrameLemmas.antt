@@ -3,6 +3,7 @@ use Rattle.std.proofs.Common.{ℕ, ℤ, pos, suc, zero, ◌≡◌, ◌≢◌, �
 use Rattle.std.specs.Int.{◌∣◌}
 use Rattle.std.proofs.lemmas.Bool.{cases_eq, cases_lt}
 use Rattle.std.proofs.lemmas.List.Elements.{All-append}
+use Rattle.lists.proofs.ElementLemmas.{made-next}
 use Rattle.rational.specs.Rational.{frac}
 use Rattle.frac128.specs.Fraction.{PartFits}
 use Rattle.frac128.specs.declared.steps.Unfit.{Unfit}
@@ -43,12 +44,15 @@ row_kept i k size xs ys n h p hp = h (k * size + p) (outside i k size p n hp)
 pub own_steps : (size : ℕ) (rows : ℕ → ℕ → ℤ) (r c i : ℕ) → i ≢ r → cond (eqb i r) [] (row_steps size (rows i) (rows r) c) ≡ row_steps size (rows i) (rows r) c
 own_steps size rows r c i n = rw (eqb_apart i r n) refl
 
+pub pivot_steps-next : (size : ℕ) (rows : ℕ → ℕ → ℤ) (r c i : ℕ) → pivot_steps size rows r c (suc i) ≡ pivot_steps size rows r c i ++ cond (eqb i r) [] (row_steps size (rows i) (rows r) c)
+pivot_steps-next size rows r c i = made-next (λ i. cond (eqb i r) [] (row_steps size (rows i) (rows r) c)) i
+
 pub rows_fit : (size : ℕ) (rows : ℕ → ℕ → ℤ) (r c i : ℕ) → All StepFits (pivot_steps size rows r c i) → All StepFits (cond (eqb i r) [] (row_steps size (rows i) (rows r) c)) → All StepFits (pivot_steps size rows r c (i + 1))
-rows_fit size rows r c i f g = subst (λ n. All StepFits (pivot_steps size rows r c n)) (plus_one i) (All-append StepFits (pivot_steps size rows r c i) (cond (eqb i r) [] (row_steps size (rows i) (rows r) c)) f g)
+rows_fit size rows r c i f g = subst (λ n. All StepFits (pivot_steps size rows r c n)) (plus_one i) (subst (All StepFits) (sym (pivot_steps-next size rows r c i)) (All-append StepFits (pivot_steps size rows r c i) (cond (eqb i r) [] (row_steps size (rows i) (rows r) c)) f g))
 
 pub unfit_row : (size : ℕ) (rows : ℕ → ℕ → ℤ) (r c i n : ℕ) (e : Unfit) → i < n → All StepFits (pivot_steps size rows r c i) → IsFirstUnfit (cond (eqb i r) [] (row_steps size (rows i) (rows r) c)) e → IsFirstUnfit (pivot_steps size rows r c n) e
 unfit_row size rows r c i zero e l f h = absurd (omega arith)
-unfit_row size rows r c i (suc n) e l f h = elim (cases_eq i n) [
+unfit_row size rows r c i (suc n) e l f h = subst (λ s. IsFirstUnfit s e) (sym (pivot_steps-next size rows r c n)) (elim (cases_eq i n) [
   | inl k ↦ subst (λ m. IsFirstUnfit (pivot_steps size rows r c m ++ cond (eqb m r) [] (row_steps size (rows m) (rows r) c)) e) k (first_unfit-following (pivot_steps size rows r c i) (cond (eqb i r) [] (row_steps size (rows i) (rows r) c)) e f h)
   | inr m ↦ first_unfit-more (pivot_steps size rows r c n) (cond (eqb n r) [] (row_steps size (rows n) (rows r) c)) e (unfit_row size rows r c i n e (omega arith) f h)
-]
+])

@@ -24,7 +24,7 @@ use Rattle.frac128.specs.Fraction.{PartFits}
 use Rattle.whole_rows.specs.Rows.{fraction, IsRow, IsGreatestDivisor}
 use Rattle.whole_rows.specs.Pivots.{signed_by, own_factor, other_factor, place_number, turned, exchanged, steps_to, row_steps}
 use Rattle.whole_rows.specs.Shorts.{IsShort}
-use Rattle.whole_rows.specs.PivotedRows.{IsPivotedRow, IsPivotRow, IsReduced}
+use Rattle.whole_rows.specs.PivotedRows.{IsPivotedRow, IsPivotRow, IsPrimitivePart}
 use Rattle.whole_rows.proofs.FittingStepLemmas.{whole-sub, read_back}
 
 -- a fraction as a product
@@ -129,7 +129,7 @@ module _ (p k : ℤ) (h : p ≢ pos 0) where
   own_factor_pos = lt_of_times (pos 0) (own_factor p k) (gcd (nat_abs p) (nat_abs k)) (subst₂ (λ x y. x <ℤ y) (ring integer_ring (pos (gcd (nat_abs p) (nat_abs k)) ∷ []) (num 0) (num 0 :* R.A) refl) (sym own_times) (own_sign p h))
 
 -- ---- a row divided by its greatest common divisor
-pub reduced : (size : ℕ) (row new : ℕ → ℤ) (g : ℤ) → 0 < size → pos 0 <ℤ g → pos 0 <ℤ row 0 → IsGreatestDivisor row size (nat_abs g) → ((p : ℕ) → p < size → new p *ℤ g ≡ row p) → ((p : ℕ) → p < size → PartFits (new p)) → IsReduced size row new
+pub reduced : (size : ℕ) (row new : ℕ → ℤ) (g : ℤ) → 0 < size → pos 0 <ℤ g → pos 0 <ℤ row 0 → IsGreatestDivisor row size (nat_abs g) → ((p : ℕ) → p < size → new p *ℤ g ≡ row p) → ((p : ℕ) → p < size → PartFits (new p)) → IsPrimitivePart size row new
 reduced size row new (negsuc g) h gp rp d e f = absurd (omega (arith, ints))
 reduced size row new (pos g) h gp rp d e f =
     record {
@@ -140,7 +140,7 @@ reduced size row new (pos g) h gp rp d e f =
     lead : pos 0 <ℤ new 0
     lead = lt_of_times (pos 0) (new 0) g (subst₂ (λ x y. x <ℤ y) (ring integer_ring (pos g ∷ []) (num 0) (num 0 :* R.A) refl) (sym (e 0 h)) rp)
 
-pub reduced_already : (size : ℕ) (row : ℕ → ℤ) (g : ℤ) → pos 0 <ℤ row 0 → ((p : ℕ) → p < size → PartFits (row p)) → IsGreatestDivisor row size (nat_abs g) → g ≡ pos 1 → IsReduced size row row
+pub reduced_already : (size : ℕ) (row : ℕ → ℤ) (g : ℤ) → pos 0 <ℤ row 0 → ((p : ℕ) → p < size → PartFits (row p)) → IsGreatestDivisor row size (nat_abs g) → g ≡ pos 1 → IsPrimitivePart size row row
 reduced_already size row g rp f d e = record { is_row = record { positive = rp; fits = f; lowest = λ k q. eq-one_of_dvd-one (subst (λ x. k ∣ nat_abs x) e (d.greatest k q)) }; same = λ p hp. refl }
 
 divided_lead : (z : ℕ → ℤ) (g : ℕ) (n : ℤ) → z 0 *ℤ pos g ≡ n → pos 0 <ℤ n → pos 0 <ℤ z 0
@@ -194,7 +194,7 @@ module _ (row b : ℕ → ℤ) (c : ℕ) (a0 : pos 0 <ℤ row 0) (b0 : pos 0 <�
       ∙ ap neg_ℚ (ap₂ (λ x y. x *ℚ inv_ℚ y) (sym (fraction_over row c a0)) (sym (fraction_over b c b0)))
 
   -- what was written, divided by a common divisor of it, and then reduced
-  pub pivoted_row : (size g : ℕ) (z x : ℕ → ℤ) → c < size → 0 < g → ((p : ℕ) → p < size → z p *ℤ pos g ≡ combined p) → IsReduced size z x → IsPivotedRow size row b c x
+  pub pivoted_row : (size g : ℕ) (z x : ℕ → ℤ) → c < size → 0 < g → ((p : ℕ) → p < size → z p *ℤ pos g ≡ combined p) → IsPrimitivePart size z x → IsPivotedRow size row b c x
   pivoted_row size g z x hs hg e r =
       record {
         is_row = r.is_row;

@@ -7,6 +7,7 @@ use Rattle.std.proofs.lemmas.List.{get_or-set_same, get_or-set_other}
 use Rattle.std.proofs.lemmas.List.Elements.{All-append}
 use Rattle.std.proofs.lemmas.Nat.Gcd.{dvd_trans}
 use native.Mathlib.Nat.{dvd_refl, one-dvd, pos_of_dvd_of_pos}
+use Rattle.lists.proofs.ElementLemmas.{made-next}
 use Rattle.rational.specs.Gcd.{gcd}
 use Rattle.rational.specs.GcdLaws.{gcd-is}
 use Rattle.frac128.specs.declared.steps.Unfit.{Unfit}
@@ -62,13 +63,16 @@ pub common_one : (f : ℕ → ℤ) (place size g : ℕ) → place ≤ size → I
 common_one f place size g l k e = record { positive = omega arith; divides = λ p hp. one-dvd _; greatest = λ d q. subst (λ n. d ∣ n) e (k.greatest d (λ p hp. q p (omega arith))) }
 
 -- ---- the steps of a row
+pub steps_to-next : (row b : ℕ → ℤ) (c : ℕ) (u v : ℤ) (place : ℕ) → steps_to row b c u v (suc place) ≡ steps_to row b c u v place ++ place_steps row b c u v place
+steps_to-next row b c u v place = made-next (place_steps row b c u v) place
+
 -- the first unfit step at a place is that of all the places
 pub unfit_in_row : (row b : ℕ → ℤ) (c : ℕ) (u v : ℤ) (place size : ℕ) (e : Unfit) → place < size → All StepFits (steps_to row b c u v place) → IsFirstUnfit (place_steps row b c u v place) e → IsFirstUnfit (steps_to row b c u v size) e
 unfit_in_row row b c u v place zero e l f h = absurd (omega arith)
-unfit_in_row row b c u v place (suc size) e l f h = elim (cases_eq place size) [
+unfit_in_row row b c u v place (suc size) e l f h = subst (λ s. IsFirstUnfit s e) (sym (steps_to-next row b c u v size)) (elim (cases_eq place size) [
   | inl k ↦ subst (λ n. IsFirstUnfit (steps_to row b c u v n ++ place_steps row b c u v n) e) k (first_unfit-following (steps_to row b c u v place) (place_steps row b c u v place) e f h)
   | inr n ↦ first_unfit-more (steps_to row b c u v size) (place_steps row b c u v size) e (unfit_in_row row b c u v place size e (omega arith) f h)
-]
+])
 
 -- ---- a place more is divided
 pub still_divides : (by x y : ℤ) → SFits w128 by → x ≡ y → PartFits y → nat_abs by ∣ nat_abs y → nat_abs (to_z w128 (of_z w128 by)) ∣ nat_abs (to_z w128 (of_z w128 x))
@@ -82,7 +86,7 @@ plus_one n = omega arith
 
 -- a place more fits
 pub steps_next : (row b : ℕ → ℤ) (c : ℕ) (u v : ℤ) (place : ℕ) → All StepFits (steps_to row b c u v place) → All StepFits (place_steps row b c u v place) → All StepFits (steps_to row b c u v (place + 1))
-steps_next row b c u v place f g = subst (λ n. All StepFits (steps_to row b c u v n)) (plus_one place) (All-append StepFits (steps_to row b c u v place) (place_steps row b c u v place) f g)
+steps_next row b c u v place f g = subst (λ n. All StepFits (steps_to row b c u v n)) (plus_one place) (subst (All StepFits) (sym (steps_to-next row b c u v place)) (All-append StepFits (steps_to row b c u v place) (place_steps row b c u v place) f g))
 
 pub written_there : (n x : ℤ) → n ≡ x → PartFits n → (to_z w128 (of_z w128 n) ≡ x) × PartFits (to_z w128 (of_z w128 n))
 written_there n x e f = (read_back n f ∙ e, subst PartFits (sym (read_back n f)) f)

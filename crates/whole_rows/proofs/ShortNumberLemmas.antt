@@ -8,10 +8,11 @@ use Rattle.frac128.proofs.DifferenceLemmas.{neg_fits}
 use Rattle.frac128.specs.Fraction.{PartFits}
 use Rattle.frac128.specs.Steps.{StepFits}
 use Rattle.frac128.proofs.StepRunLemmas.{one-fits}
-use Rattle.whole_rows.specs.Steps.{times}
+use Rattle.whole_rows.specs.Steps.{product_step}
 use Rattle.whole_rows.specs.Pivots.{place_steps, place_number, steps_to}
 use Rattle.whole_rows.specs.Shorts.{IsShort, FitsShort}
 use Rattle.whole_rows.proofs.FittingStepLemmas.{times_fits, all_fit}
+use Rattle.whole_rows.proofs.RowWriteLemmas.{steps_to-next}
 use Rattle.whole_rows.proofs.PlaceStepLemmas.{steps_lead, number_lead, steps_column, number_column, steps_other, number_other}
 
 size_bound : (x y : ℕ) → x ≤ 2 ^ 63 → y < 2 ^ 63 → x * y < 2 ^ 126
@@ -37,7 +38,7 @@ module _ (row b : ℕ → ℤ) (c p : ℕ) where
 
   pub short_lead : (u v x : ℤ) → p ≡ 0 → (x ≡ row 0 *ℤ u) × (nat_abs x < 2 ^ 126) × (nat_abs (row 0) ≤ 2 ^ 63) → ShortAt u v x
   short_lead u v x e h =
-      (h.0 ∙ sym (number_lead row b c u v p e), product_fits x h.1, λ r s f g. subst (All StepFits) (sym (steps_lead row b c r s p e)) (one-fits (times (row 0) r) ((times_fits (row 0) r).0 (short_fits (row 0) r h.2 f))))
+      (h.0 ∙ sym (number_lead row b c u v p e), product_fits x h.1, λ r s f g. subst (All StepFits) (sym (steps_lead row b c r s p e)) (one-fits (product_step (row 0) r) ((times_fits (row 0) r).0 (short_fits (row 0) r h.2 f))))
 
   pub short_leads : (u v : ℤ) (o : Option ℤ) → p ≡ 0 → IfSome o (λ x. (x ≡ row 0 *ℤ u) × (nat_abs x < 2 ^ 126) × (nat_abs (row 0) ≤ 2 ^ 63)) → IfSome o (ShortAt u v)
   short_leads u v None e h = h
@@ -45,7 +46,7 @@ module _ (row b : ℕ → ℤ) (c p : ℕ) where
 
   pub short_column : (u v x y : ℤ) → p ≢ 0 → p ≡ c → (x ≡ b 0 *ℤ v) × (nat_abs x < 2 ^ 126) × (nat_abs (b 0) ≤ 2 ^ 63) → y ≡ neg_ℤ x → ShortAt u v y
   short_column u v x y n e h is =
-      (is ∙ ap neg_ℤ h.0 ∙ sym (number_column row b c u v p n e), subst PartFits (sym is) (neg_fits x (product_fits x h.1)), λ r s f g. subst (All StepFits) (sym (steps_column row b c r s p n e)) (one-fits (times (b 0) s) ((times_fits (b 0) s).0 (short_fits (b 0) s h.2 g))))
+      (is ∙ ap neg_ℤ h.0 ∙ sym (number_column row b c u v p n e), subst PartFits (sym is) (neg_fits x (product_fits x h.1)), λ r s f g. subst (All StepFits) (sym (steps_column row b c r s p n e)) (one-fits (product_step (b 0) s) ((times_fits (b 0) s).0 (short_fits (b 0) s h.2 g))))
 
   pub short_other : (u v x y d : ℤ) → p ≢ 0 → p ≢ c → (x ≡ row p *ℤ u) × (nat_abs x < 2 ^ 126) × (nat_abs (row p) ≤ 2 ^ 63) → (y ≡ b p *ℤ v) × (nat_abs y < 2 ^ 126) × (nat_abs (b p) ≤ 2 ^ 63) → d ≡ x -ℤ y → PartFits d → ShortAt u v d
   short_other u v x y d n m h k is fd =
@@ -54,7 +55,7 @@ module _ (row b : ℕ → ℤ) (c p : ℕ) where
 -- the steps of a row fit where those of its places do
 pub short_steps : (row b : ℕ → ℤ) (c : ℕ) (u v : ℤ) (size : ℕ) → IsShort u → IsShort v → ((p : ℕ) → p < size → FitsShort row b c p) → All StepFits (steps_to row b c u v size)
 short_steps row b c u v zero hu hv h = All-nil StepFits
-short_steps row b c u v (suc size) hu hv h = All-append StepFits (steps_to row b c u v size) (place_steps row b c u v size) (short_steps row b c u v size hu hv (λ p l. h p (omega arith))) (h size (omega arith) u v hu hv)
+short_steps row b c u v (suc size) hu hv h = subst (All StepFits) (sym (steps_to-next row b c u v size)) (All-append StepFits (steps_to row b c u v size) (place_steps row b c u v size) (short_steps row b c u v size hu hv (λ p l. h p (omega arith))) (h size (omega arith) u v hu hv))
 
 -- a factor of 64 bits is read as it was stored
 pub short_back : (n : ℤ) → IsShort n → to_z w64 (of_z w64 n) ≡ n

@@ -1,11 +1,13 @@
 -- The least common denominator of a row, and the whole numbers over it.
-use Rattle.std.proofs.Common.{ℕ, ℤ, pos, negsuc, suc, zero, ◌≡◌, ◌≢◌, ◌<◌, ◌≤◌, ◌+◌, ◌*◌, ◌/◌, ◌*ℤ◌, ◌<ℤ◌, nat_abs, sym, ap, ap₂, ◌∙◌, subst, subst₂, List, arith, ◌⊎◌, inl, inr, mul-pos, length, get_or, slice_set, ◌-◌, Ok, Err, to_z, of_z, All}
+use Rattle.std.proofs.Common.{ℕ, ℤ, pos, negsuc, suc, zero, ◌≡◌, ◌≢◌, ◌<◌, ◌≤◌, ◌+◌, ◌*◌, ◌/◌, ◌*ℤ◌, ◌<ℤ◌, nat_abs, sym, ap, ap₂, ◌∙◌, subst, subst₂, List, arith, ◌⊎◌, inl, inr, mul-pos, length, get_or, slice_set, ◌-◌, Ok, Err, to_z, of_z, All, map, [], ◌∷◌, ◌++◌}
 use Rattle.std.specs.Int.{◌∣◌, w128}
+use Rattle.std.specs.List.{range_with_len}
 use Rattle.std.proofs.lemmas.List.{get_or_default, get_or-set_same, get_or-set_other}
 use Rattle.std.proofs.lemmas.Int.{ints, unsigned_abs-mul}
 use Rattle.std.proofs.lemmas.Nat.Gcd.{dvd_trans}
 use Rattle.std.proofs.lemmas.Bool.{cases_eq}
 use Rattle.std.proofs.lemmas.List.Elements.{All-append}
+use Rattle.std.proofs.lemmas.List.FromFn.{map-range_with_len_more}
 use native.Mathlib.Nat.{dvd-mul_right, div-mul_cancel, mul-dvd-mul_right, dvd_of_mul-dvd-mul_right, eq-one_of_dvd-one, one-mul}
 use Rattle.rational.specs.Gcd.{gcd, div_ℤ}
 use Rattle.whole_rows.specs.Pivots.{signed_by}
@@ -18,9 +20,9 @@ use Rattle.rational.proofs.FractionLemmas.{frac_self, cancel_pos}
 use Rattle.frac128.specs.Fraction.{PartFits}
 use Rattle.frac128.specs.declared.steps.Unfit.{Unfit}
 use Rattle.whole_rows.specs.Rows.{fraction, from_place}
-use Rattle.frac128.specs.Steps.{StepFits, IsFirstUnfit}
-use Rattle.whole_rows.specs.Steps.{times}
-use Rattle.whole_rows.specs.StartRows.{cells_from, common_to, denominator_steps, numerator_steps, start_row_steps, IsStartRow}
+use Rattle.frac128.specs.Steps.{Step, StepFits, IsFirstUnfit}
+use Rattle.whole_rows.specs.Steps.{product_step}
+use Rattle.whole_rows.specs.StartRows.{cells_from, common_to, denominator_step, denominator_steps, numerator_step, numerator_steps, start_row_steps, IsStartRow}
 use Rattle.whole_rows.proofs.FittingStepLemmas.{times_fits, read_back}
 use Rattle.std.specs.Result.{OnOk, IfErr}
 use Rattle.std.specs.declared.result.Result.{Result}
@@ -133,25 +135,28 @@ module _ (cells : ℕ → ℚ) where
           quotient_pos (suc x) g d h e = omega arith
 
 -- ---- the steps
-pub denominator_next : (cells : ℕ → ℚ) (k : ℕ) → All StepFits (denominator_steps cells k) → PartFits (pos (common_to cells k) *ℤ pos ((cells k).den / gcd (common_to cells k) (cells k).den)) → All StepFits (denominator_steps cells (k + 1))
-denominator_next cells k f h = subst (λ n. All StepFits (denominator_steps cells n)) (plus_one k) (fits-more (denominator_steps cells k) (times (pos (common_to cells k)) (pos ((cells k).den / gcd (common_to cells k) (cells k).den))) f ((times_fits (pos (common_to cells k)) (pos ((cells k).den / gcd (common_to cells k) (cells k).den))).0 h))
+map-next : (f : ℕ → Step) (n : ℕ) → map f (range_with_len 0 (suc n)) ≡ map f (range_with_len 0 n) ++ f n ∷ []
+map-next f n = ap (λ m. map f (range_with_len 0 m)) (plus_one n) ∙ map-range_with_len_more f 0 n n (omega arith)
 
-pub denominator_unfit : (cells : ℕ → ℚ) (k n : ℕ) (e : Unfit) → k < n → All StepFits (denominator_steps cells k) → ¬ (PartFits (pos (common_to cells k) *ℤ pos ((cells k).den / gcd (common_to cells k) (cells k).den))) → e ≡ times (pos (common_to cells k)) (pos ((cells k).den / gcd (common_to cells k) (cells k).den)) → IsFirstUnfit (denominator_steps cells n) e
+pub denominator_next : (cells : ℕ → ℚ) (k : ℕ) → All StepFits (denominator_steps cells k) → PartFits (pos (common_to cells k) *ℤ pos ((cells k).den / gcd (common_to cells k) (cells k).den)) → All StepFits (denominator_steps cells (k + 1))
+denominator_next cells k f h = subst (λ n. All StepFits (denominator_steps cells n)) (plus_one k) (subst (All StepFits) (sym (map-next (denominator_step cells) k)) (fits-more (denominator_steps cells k) (denominator_step cells k) f ((times_fits (pos (common_to cells k)) (pos ((cells k).den / gcd (common_to cells k) (cells k).den))).0 h)))
+
+pub denominator_unfit : (cells : ℕ → ℚ) (k n : ℕ) (e : Unfit) → k < n → All StepFits (denominator_steps cells k) → ¬ (PartFits (pos (common_to cells k) *ℤ pos ((cells k).den / gcd (common_to cells k) (cells k).den))) → e ≡ product_step (pos (common_to cells k)) (pos ((cells k).den / gcd (common_to cells k) (cells k).den)) → IsFirstUnfit (denominator_steps cells n) e
 denominator_unfit cells k zero e l f h same = absurd (omega arith)
-denominator_unfit cells k (suc n) e l f h same = elim (cases_eq k n) [
-  | inl q ↦ subst (λ m. IsFirstUnfit (denominator_steps cells (suc m)) e) q (unfit-more (denominator_steps cells k) (times (pos (common_to cells k)) (pos ((cells k).den / gcd (common_to cells k) (cells k).den))) e f (λ g. h ((times_fits _ _).1 g)) same)
+denominator_unfit cells k (suc n) e l f h same = subst (λ s. IsFirstUnfit s e) (sym (map-next (denominator_step cells) n)) (elim (cases_eq k n) [
+  | inl q ↦ subst (λ m. IsFirstUnfit (denominator_steps cells m ++ denominator_step cells m ∷ []) e) q (unfit-more (denominator_steps cells k) (denominator_step cells k) e f (λ g. h ((times_fits _ _).1 g)) same)
   | inr m ↦ first_unfit-more (denominator_steps cells n) _ e (denominator_unfit cells k n e (omega arith) f h same)
-]
+])
 
 pub numerator_next : (cells : ℕ → ℚ) (b k : ℕ) → All StepFits (numerator_steps cells b k) → PartFits ((cells k).num *ℤ pos (b / (cells k).den)) → All StepFits (numerator_steps cells b (k + 1))
-numerator_next cells b k f h = subst (λ n. All StepFits (numerator_steps cells b n)) (plus_one k) (fits-more (numerator_steps cells b k) (times (cells k).num (pos (b / (cells k).den))) f ((times_fits (cells k).num (pos (b / (cells k).den))).0 h))
+numerator_next cells b k f h = subst (λ n. All StepFits (numerator_steps cells b n)) (plus_one k) (subst (All StepFits) (sym (map-next (numerator_step cells b) k)) (fits-more (numerator_steps cells b k) (numerator_step cells b k) f ((times_fits (cells k).num (pos (b / (cells k).den))).0 h)))
 
-pub numerator_unfit : (cells : ℕ → ℚ) (b k n : ℕ) (e : Unfit) → k < n → All StepFits (numerator_steps cells b k) → ¬ (PartFits ((cells k).num *ℤ pos (b / (cells k).den))) → e ≡ times (cells k).num (pos (b / (cells k).den)) → IsFirstUnfit (numerator_steps cells b n) e
+pub numerator_unfit : (cells : ℕ → ℚ) (b k n : ℕ) (e : Unfit) → k < n → All StepFits (numerator_steps cells b k) → ¬ (PartFits ((cells k).num *ℤ pos (b / (cells k).den))) → e ≡ product_step (cells k).num (pos (b / (cells k).den)) → IsFirstUnfit (numerator_steps cells b n) e
 numerator_unfit cells b k zero e l f h same = absurd (omega arith)
-numerator_unfit cells b k (suc n) e l f h same = elim (cases_eq k n) [
-  | inl q ↦ subst (λ m. IsFirstUnfit (numerator_steps cells b (suc m)) e) q (unfit-more (numerator_steps cells b k) (times (cells k).num (pos (b / (cells k).den))) e f (λ g. h ((times_fits _ _).1 g)) same)
+numerator_unfit cells b k (suc n) e l f h same = subst (λ s. IsFirstUnfit s e) (sym (map-next (numerator_step cells b) n)) (elim (cases_eq k n) [
+  | inl q ↦ subst (λ m. IsFirstUnfit (numerator_steps cells b m ++ numerator_step cells b m ∷ []) e) q (unfit-more (numerator_steps cells b k) (numerator_step cells b k) e f (λ g. h ((times_fits _ _).1 g)) same)
   | inr m ↦ first_unfit-more (numerator_steps cells b n) _ e (numerator_unfit cells b k n e (omega arith) f h same)
-]
+])
 
 -- ---- what the code reads
 pub added_is : (common den g r : ℤ) → pos 0 <ℤ den → g ≡ pos (gcd (nat_abs common) (nat_abs den)) → r ≡ div_ℤ (signed_by den den) (nat_abs g) → r ≡ pos (nat_abs den / gcd (nat_abs common) (nat_abs den))

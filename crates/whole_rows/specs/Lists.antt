@@ -65,15 +65,15 @@ steps_at numbers own first column u v size =
     steps_to (from_place numbers own) (from_place numbers first) column u v size
 
 -- new has the row's numbers at `own`, before they are divided
-abbrev pub IsWritten : List ℤ → ℕ → ℕ → ℕ → ℤ → ℤ → ℕ → List ℤ → Type 0
-IsWritten numbers own first column u v size new =
+abbrev pub IsUndividedRow : List ℤ → ℕ → ℕ → ℕ → ℤ → ℤ → ℕ → List ℤ → Type 0
+IsUndividedRow numbers own first column u v size new =
     (p : ℕ) → p < size
     → (from_place new own p ≡ place_number_at numbers own first column u v p)
     × PartFits (from_place new own p)
 
 -- new has them divided by d
-abbrev pub IsWrittenBy : ℕ → List ℤ → ℕ → ℕ → ℕ → ℤ → ℤ → ℕ → List ℤ → Type 0
-IsWrittenBy d numbers own first column u v size new =
+abbrev pub IsDividedRow : ℕ → List ℤ → ℕ → ℕ → ℕ → ℤ → ℤ → ℕ → List ℤ → Type 0
+IsDividedRow d numbers own first column u v size new =
     (p : ℕ) → p < size
     → (from_place new own p *ℤ pos d ≡ place_number_at numbers own first column u v p)
     × PartFits (from_place new own p)

@@ -20,6 +20,6 @@ pub record IsPivotRow (size : ℕ) (b : ℕ → ℤ) (c : ℕ) (new : ℕ → �
       → fraction new p ≡ fraction b p *ℚ inv_ℚ (fraction b c)
 
 -- new is the row divided by the greatest common divisor of its numbers
-pub record IsReduced (size : ℕ) (row new : ℕ → ℤ) : Type 0 where
+pub record IsPrimitivePart (size : ℕ) (row new : ℕ → ℤ) : Type 0 where
   pub is_row : IsRow size new
   pub same : (p : ℕ) → p < size → fraction new p ≡ fraction row p

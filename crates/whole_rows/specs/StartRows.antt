@@ -1,5 +1,5 @@
 -- The rows of a system of fractions as whole numbers, and the steps by which they become so
-use Rattle.std.specs.Prelude.{ℕ, ℤ, pos, zero, suc, ◌+◌, ◌*◌, ◌/◌, ◌<◌, ◌≡◌, List, [], ◌∷◌, ◌++◌, All}
+use Rattle.std.specs.Prelude.{ℕ, ℤ, pos, zero, suc, ◌+◌, ◌*◌, ◌/◌, ◌<◌, ◌≡◌, List, ◌++◌, All, map}
 use Rattle.std.specs.List.{range_with_len}
 use Rattle.answers.specs.Answers.{Answer}
 use Rattle.rational.specs.Gcd.{gcd}
@@ -9,7 +9,7 @@ use Rattle.frac128.specs.Fraction.{PartFits}
 use Rattle.whole_rows.specs.Rows.{IsRow, fraction}
 use Rattle.frac128.specs.Steps.{Step, StepFits}
 use Rattle.frac128.specs.FirstUnfit.{all_fit}
-use Rattle.whole_rows.specs.Steps.{times}
+use Rattle.whole_rows.specs.Steps.{product_step}
 
 -- the fractions from a place of a list on
 abbrev pub cells_from : List ℚ → ℕ → ℕ → ℚ
@@ -21,19 +21,23 @@ common_to cells zero = 1
 common_to cells (suc k) =
     common_to cells k * ((cells k).den / gcd (common_to cells k) (cells k).den)
 
--- its steps: each times what the next denominator adds
-abbrev pub denominator_steps : (ℕ → ℚ) → ℕ → List Step
-denominator_steps cells zero = []
-denominator_steps cells (suc k) =
-    denominator_steps cells k
-    ++ times (pos (common_to cells k)) (pos ((cells k).den / gcd (common_to cells k) (cells k).den))
-    ∷ []
+-- the common denominator of the cells before a place times what the denominator there adds
+abbrev pub denominator_step : (ℕ → ℚ) → ℕ → Step
+denominator_step cells place =
+    product_step (pos (common_to cells place))
+    (pos ((cells place).den / gcd (common_to cells place) (cells place).den))
 
--- the steps of the first k numbers of a row with the common denominator b
+-- the steps of the least common denominator of the first cells
+abbrev pub denominator_steps : (ℕ → ℚ) → ℕ → List Step
+denominator_steps cells count = map (denominator_step cells) (range_with_len 0 count)
+
+-- the step of the number at a place of a row with the common denominator b
+abbrev pub numerator_step : (ℕ → ℚ) → ℕ → ℕ → Step
+numerator_step cells b place = product_step (cells place).num (pos (b / (cells place).den))
+
+-- the steps of the first numbers of a row with the common denominator b
 abbrev pub numerator_steps : (ℕ → ℚ) → ℕ → ℕ → List Step
-numerator_steps cells b zero = []
-numerator_steps cells b (suc k) =
-    numerator_steps cells b k ++ times (cells k).num (pos (b / (cells k).den)) ∷ []
+numerator_steps cells b count = map (numerator_step cells b) (range_with_len 0 count)
 
 -- the steps of the numbers over the common denominator
 abbrev pub over_steps : ℕ → (ℕ → ℚ) → List Step

@@ -8,7 +8,7 @@ ghost use Rattle.whole_rows.specs.Lists.{IsWhereFit};
 ghost use Rattle.whole_rows.specs.Pivots.{other_factor, own_factor};
 ghost use Rattle.whole_rows.specs.Shorts.{IsShort};
 ghost use Rattle.frac128.specs.Steps.{StepFits, IsFirstUnfit};
-ghost use Rattle.whole_rows.specs.Steps.{combination_steps, less, times};
+ghost use Rattle.whole_rows.specs.Steps.{combination_steps, difference_step, product_step};
 
 use frac128::{Frac, Op, Unfit, cmp_signed_quotients};
 use std::cmp::Ordering;
@@ -119,7 +119,7 @@ pub fn fraction(num: i128, den: i128) -> Frac
 pub fn unfit_product(a: i128, b: i128) -> Unfit
     requires left { PartFits a }
     requires right { PartFits b }
-    ensures { result ≡ times a b }
+    ensures { result ≡ product_step a b }
 {
     Unfit {
         op: Op::Mul,
@@ -132,7 +132,7 @@ pub fn unfit_product(a: i128, b: i128) -> Unfit
 pub fn unfit_difference(a: i128, b: i128) -> Unfit
     requires left { PartFits a }
     requires right { PartFits b }
-    ensures { result ≡ less a b }
+    ensures { result ≡ difference_step a b }
 {
     Unfit {
         op: Op::Sub,

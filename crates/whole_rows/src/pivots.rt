@@ -4,7 +4,7 @@ ghost use Rattle.std.specs.Int.{◌∣◌};
 ghost use Rattle.rational.specs.Gcd.{gcd as gcd_of, div_ℤ};
 ghost use Rattle.frac128.specs.Fraction.{PartFits};
 ghost use Rattle.whole_rows.specs.Lists.{AgreeOutside, AllPartsFit, AreOthersPivoted, AreRows, IsPivotAt, IsPivotedAt, IsPivotedRowAt, RowFits, row_steps_at, steps_of_row, steps_of_rows};
-ghost use Rattle.whole_rows.specs.PivotedRows.{IsReduced};
+ghost use Rattle.whole_rows.specs.PivotedRows.{IsPrimitivePart};
 ghost use Rattle.whole_rows.specs.Pivots.{other_factor, own_factor, signed_by};
 ghost use Rattle.whole_rows.specs.Rows.{IsGreatestDivisor, IsRow, from_place};
 ghost use Rattle.frac128.specs.Steps.{StepFits, IsFirstUnfit};
@@ -81,7 +81,8 @@ fn reduce_row(numbers: &mut [i128], own: usize, size: usize)
     requires fit { RowFits size (from_place numbers.old own) }
     ensures length { length numbers.new ≡ length numbers.old }
     ensures kept { AgreeOutside own size numbers.new numbers.old }
-    ensures reduced { IsReduced size (from_place numbers.old own) (from_place numbers.new own) }
+    ensures reduced { IsPrimitivePart
+        size (from_place numbers.old own) (from_place numbers.new own) }
 {
     let common = row_divisor(numbers, own, size);
     if common != 1 {
@@ -229,7 +230,9 @@ fn write_row(
 }
 
 /// Writes what the pivot makes of rows of so many numbers. `row` is the pivot's row, and `column`
-/// the place of its column in each row.
+/// the place of its column in each row. `numbers` and `spare` have `rows` rows of `size` numbers:
+/// the coefficient of the basic variable, one per column, the right side. `row` counts from 0,
+/// `column` from 1.
 ///
 /// # Errors
 ///

@@ -2,7 +2,7 @@
 ghost use Rattle.std.specs.Prelude.{◌≡◌, ◌+◌, ◌<◌, ◌≤◌, ℕ, ◌<ℤ◌, pos, nat_abs, length, IfErr, OnOk, IsTrue, All};
 ghost use Rattle.std.specs.Int.{◌∣◌};
 ghost use Rattle.frac128.specs.Fraction.{PartFits};
-ghost use Rattle.whole_rows.specs.Lists.{AgreeOutside, AllPartsFit, AreSame, IsDivided, IsWritten, IsWrittenBy, RowFits, RowFitsShort, steps_at};
+ghost use Rattle.whole_rows.specs.Lists.{AgreeOutside, AllPartsFit, AreSame, IsDivided, IsUndividedRow, IsDividedRow, RowFits, RowFitsShort, steps_at};
 ghost use Rattle.whole_rows.specs.Pivots.{other_factor, own_factor, turned};
 ghost use Rattle.whole_rows.specs.Rows.{IsGreatestDivisor, from_place};
 ghost use Rattle.whole_rows.specs.Shorts.{IsShort};
@@ -66,7 +66,7 @@ pub fn write_combination(
     requires other_factor { PartFits v }
     ensures length { length spare.new ≡ length spare.old }
     ensures kept { AgreeOutside own size spare.new spare.old }
-    ensures written { OnOk result (IsWritten numbers.now own first column u v size spare.new) }
+    ensures written { OnOk result (IsUndividedRow numbers.now own first column u v size spare.new) }
     ensures fits { OnOk result (All StepFits (steps_at numbers.now own first column u v size)) }
     ensures unfit { IfErr result (IsFirstUnfit (steps_at numbers.now own first column u v size)) }
 {
@@ -101,7 +101,7 @@ pub fn write_divided(
     ensures length { length spare.new ≡ length spare.old }
     ensures kept { AgreeOutside own size spare.new spare.old }
     ensures divided { IsTrue result
-        → IsWrittenBy by.value numbers.now own first column u v size spare.new }
+        → IsDividedRow by.value numbers.now own first column u v size spare.new }
     ensures fits { IsTrue result → RowFitsShort numbers.now own first column size }
 {
     for place in 0..size {

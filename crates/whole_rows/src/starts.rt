@@ -99,7 +99,9 @@ pub struct UnfitRow {
     pub unfit: Unfit,
 }
 
-/// Writes the rows of a system as whole numbers, each over its least common denominator.
+/// Writes the rows of a system as whole numbers, each over its least common denominator. `cells`
+/// has `rows` rows of `count` fractions, the right side last in each; `numbers` has `rows` rows of
+/// `count + 1` numbers, the common denominator first.
 ///
 /// # Errors
 ///

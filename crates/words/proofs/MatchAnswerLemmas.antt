@@ -102,10 +102,10 @@ convert_refuses ps h = first (first_or_rest 79 (codes "rc") h.0 h.1)
     at x e = subst (λ y. has_hyphen (values_of y ps) ≡ true) (sym e) h.2
 
     third : 99 ≡ h.0 → convert_of ps ≡ None
-    third e = none_after _ (option_and_then layout_of (at_most_one (values_of 79 ps))) (λ html. none_after _ (player_from 1 (values_of 114 ps)) (λ row. rw (hyphen_number 2 1 4294967295 (values_of 99 ps) (at 99 e)) refl))
+    third e = none_after _ (option_and_then layout_of (at_most_one (values_of 79 ps))) (λ layout. none_after _ (player_from 1 (values_of 114 ps)) (λ row. rw (hyphen_number 2 1 4294967295 (values_of 99 ps) (at 99 e)) refl))
 
     second : (114 ≡ h.0) ⊎ (has_letter (codes "c") h.0 ≡ true) → convert_of ps ≡ None
-    second (inl e) = none_after _ (option_and_then layout_of (at_most_one (values_of 79 ps))) (λ html. rw (hyphen_number 1 1 4294967295 (values_of 114 ps) (at 114 e)) refl)
+    second (inl e) = none_after _ (option_and_then layout_of (at_most_one (values_of 79 ps))) (λ layout. rw (hyphen_number 1 1 4294967295 (values_of 114 ps) (at 114 e)) refl)
     second (inr e) = third (only 99 h.0 e)
 
     first : (79 ≡ h.0) ⊎ (has_letter (codes "rc") h.0 ≡ true) → convert_of ps ≡ None

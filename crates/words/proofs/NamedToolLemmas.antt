@@ -13,7 +13,7 @@ tool_name (Enumpure strategic agents perfect file) = codes "enumpure"
 tool_name (Enummixed all workers file) = codes "enummixed"
 tool_name (Lcp strategic perfect file) = codes "lcp"
 tool_name (Lp strategic prices perfect file) = codes "lp"
-tool_name (Convert html row column file) = codes "convert"
+tool_name (Convert layout row column file) = codes "convert"
 tool_name (Check strategic game lines) = codes "check"
 tool_name (Make number rows columns workers) = codes "make"
 
@@ -53,8 +53,8 @@ lp_named words = then_named _ lp_of (λ ps. if_named _ (has_flag 80 ps && (has_f
     (map_named _ (Lp (has_flag 83 ps) (has_prices ps) (has_flag 80 ps)) (λ file. refl) (at_most_one (plain_of ps)))) (word_parts lp_options words None)
 
 convert_named : (words : List (List ℕ)) → Named (codes "convert") (answer convert_options convert_of words)
-convert_named words = then_named _ convert_of (λ ps. then_named _ _ (λ html. then_named _ _ (λ row. then_named _ _ (λ column.
-    map_named _ (Convert html row column) (λ file. refl) (at_most_one (plain_of ps))) (player_from 2 (values_of 99 ps))) (player_from 1 (values_of 114 ps)))
+convert_named words = then_named _ convert_of (λ ps. then_named _ _ (λ layout. then_named _ _ (λ row. then_named _ _ (λ column.
+    map_named _ (Convert layout row column) (λ file. refl) (at_most_one (plain_of ps))) (player_from 2 (values_of 99 ps))) (player_from 1 (values_of 114 ps)))
     (option_and_then layout_of (at_most_one (values_of 79 ps)))) (word_parts convert_options words None)
 
 game_named : (strategic : Bool) (plain : List (List ℕ)) → Named (codes "check") (check_settings strategic plain)

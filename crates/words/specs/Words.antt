@@ -3,6 +3,8 @@ use Rattle.std.specs.Prelude.{ℕ, Bool, true, false, if◌then◌else◌, ◌&&
 use Prim.Native.String.{String}
 use Rattle.std.specs.Str.{all_ascii_digits, bytes_eq}
 use Rattle.std.specs.Str.Parse.{digits_value}
+use Rattle.words.specs.declared.Layout.{Layout}
+use Rattle.words.specs.declared.Layout.TheVariants.{Html, Sgame}
 use Rattle.words.specs.declared.Settings.{Settings}
 use Rattle.words.specs.declared.Settings.TheVariants as settings
 use Rattle.words.specs.declared.SettingsStop.{SettingsStop}
@@ -20,12 +22,13 @@ pub data Command : Type 0 where
   Enummixed : (all : Bool) → (workers : ℕ) → (file : Option (List ℕ)) → Command
   Lcp : (strategic perfect : Bool) → (file : Option (List ℕ)) → Command
   Lp : (strategic prices perfect : Bool) → (file : Option (List ℕ)) → Command
-  Convert : (html : Bool) → (row column : ℕ) → (file : Option (List ℕ)) → Command
+  Convert : (layout : Layout) → (row column : ℕ) → (file : Option (List ℕ)) → Command
   Check : (strategic : Bool) → (game : List ℕ) → (lines : Option (List ℕ)) → Command
   Make : (number rows columns workers : ℕ) → Command
 
 -- ---- plain words and values
 
+-- the text, or None, where there is at most one
 abbrev pub at_most_one : List (List ℕ) → Option (Option (List ℕ))
 at_most_one [] = Some None
 at_most_one (text ∷ []) = Some (Some text)
@@ -38,6 +41,7 @@ number_in_range least most text =
     && (nat_le least (digits_value 10 text) && nat_le (digits_value 10 text) most)))
     then Some (digits_value 10 text) else None
 
+-- the number in its range that a text gives, or a default where there is no text
 abbrev pub number_or : ℕ → (least most : ℕ) → Option (List ℕ) → Option ℕ
 number_or default least most None = Some default
 number_or default least most (Some text) = number_in_range least most text
@@ -59,10 +63,10 @@ abbrev pub is_one_or_none : Option (List ℕ) → Bool
 is_one_or_none None = true
 is_one_or_none (Some text) = bytes_eq text (codes "1")
 
--- `-O`, which must be there: whether it is `html`, and not `sgame`
-abbrev pub layout_of : Option (List ℕ) → Option Bool
+-- `-O`, which must be there
+abbrev pub layout_of : Option (List ℕ) → Option Layout
 layout_of None = None
-layout_of (Some text) = if bytes_eq text (codes "html") then Some true else if bytes_eq text (codes "sgame") then Some false else None
+layout_of (Some text) = if bytes_eq text (codes "html") then Some Html else if bytes_eq text (codes "sgame") then Some Sgame else None
 
 -- ---- the tools, each with its options and what they say
 
@@ -70,6 +74,7 @@ layout_of (Some text) = if bytes_eq text (codes "html") then Some true else if b
 abbrev pub letter : String → ℕ
 letter text = slice_index (codes text) 0
 
+-- the options of `enumpure`
 abbrev pub enumpure_options : Options
 enumpure_options = record { flags = codes "qSAP"; valued = []; prices = false }
 
@@ -80,20 +85,25 @@ enumpure_settings strategic agents perfect plain =
     if strategic && (agents || perfect) then None
     else option_map (Enumpure strategic agents perfect) (at_most_one plain)
 
+-- what the parts of the words after `enumpure` ask for
 abbrev pub enumpure_of : List Part → Option Command
 enumpure_of parts =
     enumpure_settings (has_flag (letter "S") parts) (has_flag (letter "A") parts)
     (has_flag (letter "P") parts) (plain_of parts)
 
+-- the options of `enummixed`
 abbrev pub enummixed_options : Options
 enummixed_options = record { flags = codes "qD"; valued = codes "j"; prices = false }
 
+-- what `enummixed` is asked for
 abbrev pub enummixed_settings : (all : Bool) → (workers plain : List (List ℕ)) → Option Command
 enummixed_settings all workers plain = option_and_then (λ n. option_map (Enummixed all n) (at_most_one plain)) (workers_from workers)
 
+-- what the parts of the words after `enummixed` ask for
 abbrev pub enummixed_of : List Part → Option Command
 enummixed_of parts = enummixed_settings (has_flag (letter "D") parts) (values_of (letter "j") parts) (plain_of parts)
 
+-- the options of `lcp`
 abbrev pub lcp_options : Options
 lcp_options = record { flags = codes "qSP"; valued = codes "e"; prices = false }
 
@@ -106,11 +116,13 @@ lcp_settings strategic perfect equilibria plain =
     (λ e. if is_one_or_none e then option_map (Lcp strategic perfect) (at_most_one plain) else None)
     (at_most_one equilibria)
 
+-- what the parts of the words after `lcp` ask for
 abbrev pub lcp_of : List Part → Option Command
 lcp_of parts =
     lcp_settings (has_flag (letter "S") parts) (has_flag (letter "P") parts)
     (values_of (letter "e") parts) (plain_of parts)
 
+-- the options of `lp`
 abbrev pub lp_options : Options
 lp_options = record { flags = codes "qSP"; valued = []; prices = true }
 
@@ -121,52 +133,64 @@ lp_settings strategic prices perfect plain =
     if perfect && (strategic || prices) then None
     else option_map (Lp strategic prices perfect) (at_most_one plain)
 
+-- what the parts of the words after `lp` ask for
 abbrev pub lp_of : List Part → Option Command
 lp_of parts =
     lp_settings (has_flag (letter "S") parts) (has_prices parts) (has_flag (letter "P") parts)
     (plain_of parts)
 
+-- the options of `convert`
 abbrev pub convert_options : Options
 convert_options = record { flags = codes "q"; valued = codes "Orc"; prices = false }
 
+-- what `convert` is asked for
 abbrev pub convert_settings : (layouts rows columns plain : List (List ℕ)) → Option Command
-convert_settings layouts rows columns plain = option_and_then (λ html. option_and_then (λ row. option_and_then (λ column.
-    option_map (Convert html row column) (at_most_one plain))
+convert_settings layouts rows columns plain = option_and_then (λ layout. option_and_then (λ row. option_and_then (λ column.
+    option_map (Convert layout row column) (at_most_one plain))
     (player_from 2 columns)) (player_from 1 rows)) (option_and_then layout_of (at_most_one layouts))
 
+-- what the parts of the words after `convert` ask for
 abbrev pub convert_of : List Part → Option Command
 convert_of parts = convert_settings (values_of (letter "O") parts) (values_of (letter "r") parts) (values_of (letter "c") parts) (plain_of parts)
 
+-- the options of `check`
 abbrev pub check_options : Options
 check_options = record { flags = codes "qS"; valued = []; prices = false }
 
+-- what `check` is asked for: the first plain word names the game
 abbrev pub check_settings : (strategic : Bool) → (plain : List (List ℕ)) → Option Command
 check_settings strategic [] = None
 check_settings strategic (game ∷ plain) = option_map (Check strategic game) (at_most_one plain)
 
+-- what the parts of the words after `check` ask for
 abbrev pub check_of : List Part → Option Command
 check_of parts = check_settings (has_flag (letter "S") parts) (plain_of parts)
 
+-- the options of `make`
 abbrev pub make_options : Options
 make_options = record { flags = codes "q"; valued = codes "j"; prices = false }
 
+-- the number, the rows and the columns of `make`
 abbrev pub table_settings : (workers : ℕ) → List (List ℕ) → Option Command
 table_settings workers (number ∷ rows ∷ columns ∷ []) = option_and_then (λ n. option_and_then (λ r. option_map (λ c. Make n r c workers)
     (number_in_range 1 32 columns)) (number_in_range 1 32 rows)) (number_in_range 0 2147483647 number)
 table_settings workers plain = None
 
+-- what `make` is asked for
 abbrev pub make_settings : (workers plain : List (List ℕ)) → Option Command
 make_settings workers plain = option_and_then (λ n. table_settings n plain) (workers_from workers)
 
+-- what the parts of the words after `make` ask for
 abbrev pub make_of : List Part → Option Command
 make_of parts = make_settings (values_of (letter "j") parts) (plain_of parts)
 
 -- ---- the whole line
 
--- the words after the tool's
+-- the command that the words after the tool's name give, where they are understood
 abbrev pub answer : Options → (List Part → Option Command) → List (List ℕ) → Option Command
 answer options settings words = option_and_then settings (word_parts options words None)
 
+-- a command, or that the words are not understood
 abbrev pub understood : Option Command → Result Command Usage
 understood (Some command) = Ok command
 understood None = Err Words
@@ -204,7 +228,7 @@ command_of (settings.Lcp strategic perfect file) =
     Lcp strategic perfect (option_map string_bytes file)
 command_of (settings.Lp strategic prices perfect file) =
     Lp strategic prices perfect (option_map string_bytes file)
-command_of (settings.Convert html row column file) = Convert html row column (option_map string_bytes file)
+command_of (settings.Convert layout row column file) = Convert layout row column (option_map string_bytes file)
 command_of (settings.Check strategic game lines) = Check strategic (string_bytes game) (option_map string_bytes lines)
 command_of (settings.Make number rows columns workers) = Make number rows columns workers
 

@@ -54,10 +54,9 @@ pub enum Settings {
         perfect: bool,
         file: Option<String>,
     },
-    /// Print the strategic form, as HTML where `html` is set, and else as LaTeX for `sgame`. `row` and `column` are the
-    /// numbers of players, which count from 1.
+    /// Print the strategic form in a layout. `row` and `column` are the numbers of players, which count from 1.
     Convert {
-        html: bool,
+        layout: Layout,
         row: u32,
         column: u32,
         file: Option<String>,
@@ -76,6 +75,15 @@ pub enum Settings {
         columns: u32,
         workers: u32,
     },
+}
+
+/// How `convert` lays a table out.
+#[derive(Clone, Copy, Debug, PartialEq, Eq)]
+pub enum Layout {
+    /// As tables of HTML.
+    Html,
+    /// In LaTeX, for the package sgame.
+    Sgame,
 }
 
 /// How the words are refused.

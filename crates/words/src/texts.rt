@@ -4,7 +4,7 @@ ghost use Rattle.std.specs.Prelude.{◌≡◌, Some, option_map, string_bytes, I
 ghost use Rattle.words.specs.Commands.{collected};
 ghost use Rattle.words.specs.Words.{at_most_one, is_one_or_none, layout_of, number_from, number_in_range, IsRefused};
 
-use crate::{SettingsStop, Usage};
+use crate::{Layout, SettingsStop, Usage};
 use std::alloc::Global;
 
 /// The text, where there is at most one.
@@ -89,13 +89,13 @@ pub(crate) fn is_one_or_none(text: Option<&str>) -> bool
     }
 }
 
-/// Whether the layout is `html`, and not `sgame`.
-pub(crate) fn layout_of(text: Option<&str>) -> Option<bool>
+/// The layout with this name.
+pub(crate) fn layout_of(text: Option<&str>) -> Option<Layout>
     ensures { result ≡ layout_of (option_map (λ s. s.now) text.entry) }
 {
     match text? {
-        "html" => Some(true),
-        "sgame" => Some(false),
+        "html" => Some(Layout::Html),
+        "sgame" => Some(Layout::Sgame),
         _ => None,
     }
 }

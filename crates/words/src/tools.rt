@@ -171,15 +171,15 @@ fn convert(
         (collected columns.entry)
         (collected plain.entry)) result }
 {
-    let layout = at_most_one(layouts)?;
-    let Some(html) = layout_of(layout) else {
+    let name = at_most_one(layouts)?;
+    let Some(layout) = layout_of(name) else {
         return Err(SettingsStop::Usage(Usage::Words));
     };
     let row = number_from(rows, 1, 1, u32::MAX)?;
     let column = number_from(columns, 2, 1, u32::MAX)?;
     let file = file_from(alloc, plain)?;
     Ok(Settings::Convert {
-        html,
+        layout,
         row,
         column,
         file,

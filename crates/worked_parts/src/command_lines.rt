@@ -27,7 +27,7 @@ check -S game | Check { strategic: true, game: "game", lines: None }
 make 1 2 2 | Make { number: 1, rows: 2, columns: 2, workers: 1 }
 enummixed -D -j 2 | Enummixed { all: true, workers: 2, file: None }
 make -j 2 1 2 2 | Make { number: 1, rows: 2, columns: 2, workers: 2 }
-convert -O html -r 2 | Convert { html: true, row: 2, column: 2, file: None }"#;
+convert -O html -r 2 | Convert { layout: Html, row: 2, column: 2, file: None }"#;
 
 // Runs of flags, and flags that a tool does not have.
 const FLAGS: &str =
@@ -81,9 +81,9 @@ check - - | Check { strategic: false, game: "-", lines: Some("-") }
 check -O | Words"#;
 
 // Values of flags.
-const VALUES: &str = r#"convert -Ohtml | Convert { html: true, row: 1, column: 2, file: None }
-convert -qO=sgame x | Convert { html: false, row: 1, column: 2, file: Some("x") }
-convert -O sgame | Convert { html: false, row: 1, column: 2, file: None }
+const VALUES: &str = r#"convert -Ohtml | Convert { layout: Html, row: 1, column: 2, file: None }
+convert -qO=sgame x | Convert { layout: Sgame, row: 1, column: 2, file: Some("x") }
+convert -O sgame | Convert { layout: Sgame, row: 1, column: 2, file: None }
 convert -O= | Words
 convert -O==html | Words
 convert -O =html | Words
@@ -99,8 +99,8 @@ convert -Ohtml -O html | Words
 convert -Oq | Words
 convert -O HTML | Words
 convert -O htm | Words
-convert -Ohtml -r3 -c 1 | Convert { html: true, row: 3, column: 1, file: None }
-convert x -c4294967295 -r=1 -O html | Convert { html: true, row: 1, column: 4294967295, file: Some("x") }
+convert -Ohtml -r3 -c 1 | Convert { layout: Html, row: 3, column: 1, file: None }
+convert x -c4294967295 -r=1 -O html | Convert { layout: Html, row: 1, column: 4294967295, file: Some("x") }
 convert -Ohtml -c 4294967296 | Words
 convert -Ohtml -r 0 | Words
 convert -Ohtml -r | Words

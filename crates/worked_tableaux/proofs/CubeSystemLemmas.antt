@@ -8,7 +8,7 @@ use Rattle.rational.proofs.Field.{le_refl, le_of_lt}
 use Rattle.rational.proofs.InverseLemmas.{zero_lt_one}
 use Rattle.linear_systems.specs.Reached.{IsVariableOf, in_row, in_column}
 use Rattle.lex_tableau.specs.Entries.{AreNumbered}
-use Rattle.lex_tableau.specs.Starts.{IsSystem, parts_of, system_of}
+use Rattle.lex_tableau.specs.Starts.{IsSystem, linear_system, system_of}
 use Rattle.basis_enum.specs.Systems.{IsEnumerable}
 
 pub one_above : zero_ℚ ≤ℚ one_ℚ
@@ -52,7 +52,7 @@ few_rows rows n e few = (omega arith, omega arith)
 
 pub cube_system : (n : ℕ) (basics nonbasics : List ℕ) (cells : List ℚ) → n ≤ 64
     → AreNumbered (n + 1) n basics → AreNumbered 1 n nonbasics → length cells ≡ n * (n + 1)
-    → IsSystem (parts_of basics nonbasics cells n)
+    → IsSystem (linear_system basics nonbasics cells n)
 cube_system n basics nonbasics cells few b c e =
     record {
       distinct = record {
@@ -91,7 +91,7 @@ column_of n width v w p l = (omega arith, omega arith)
 
 pub cube_enumerable : (n : ℕ) (basics nonbasics : List ℕ) (cells : List ℚ) → n ≤ 64
     → AreNumbered (n + 1) n basics → AreNumbered 1 n nonbasics
-    → All (λ q. zero_ℚ ≤ℚ q) cells → IsEnumerable (parts_of basics nonbasics cells n)
+    → All (λ q. zero_ℚ ≤ℚ q) cells → IsEnumerable (linear_system basics nonbasics cells n)
 cube_enumerable n basics nonbasics cells few b c above =
     record {
       rated = sym rows;
@@ -112,7 +112,7 @@ cube_enumerable n basics nonbasics cells few b c above =
       | inr l ↦ subst (λ q. zero_ℚ ≤ℚ q) (sym (get_or_past cells k zero_ℚ l)) (le_refl zero_ℚ)
     ]
 
-    there : (v : ℕ) → IsVariableOf (system_of (parts_of basics nonbasics cells n)) v
+    there : (v : ℕ) → IsVariableOf (system_of (linear_system basics nonbasics cells n)) v
         → (0 < v) × (v ≤ length basics + length nonbasics)
     there v (in_row i l e) =
         row_within n _ _ i v rows width l (sym (numbered_at (n + 1) n basics b i l) ∙ e)
@@ -120,7 +120,7 @@ cube_enumerable n basics nonbasics cells few b c above =
         column_within n _ _ j v rows width l (sym (numbered_at 1 n nonbasics c j l) ∙ e)
 
     back : (v : ℕ) → 0 < v → v ≤ length basics + length nonbasics → (n < v) ⊎ (v ≤ n)
-        → IsVariableOf (system_of (parts_of basics nonbasics cells n)) v
+        → IsVariableOf (system_of (linear_system basics nonbasics cells n)) v
     back v p m (inl l) =
         let row : (v - (n + 1) < length basics) × (n + 1 + (v - (n + 1)) ≡ v) = row_of n _ _ v rows width l m in
         in_row (v - (n + 1)) row.0 (numbered_at (n + 1) n basics b _ row.0 ∙ row.1)

@@ -5,7 +5,7 @@ ghost use Rattle.rational.specs.Rational.{zero_ℚ, ◌≤ℚ◌};
 ghost use Rattle.basis_enum.specs.Systems.{IsEnumerable};
 
 use crate::stop::Stop;
-use basis_enum::{EnumStop, enumerate};
+use basis_enum::{EnumerationStop, enumerate};
 use frac128::Frac;
 use game_core::{Gate, OpenGate, TooLarge, What};
 use lex_tableau::{PivotCount, System, numbered};
@@ -69,7 +69,7 @@ fn counts<R: Threads + Sync, G: Gate, L: Ledger>(
     let mut pivots = PivotCount::<L>::new(blank);
     match enumerate(rt, alloc, &system, workers, gate, &mut pivots) {
         Ok(vertices) => Ok(Ok((vertices.bases, vertices.list.len()))),
-        Err(EnumStop::TooLarge(limit)) => Ok(Err(limit)),
+        Err(EnumerationStop::TooLarge(limit)) => Ok(Err(limit)),
         Err(_) => Err(Stop::Refused),
     }
 }

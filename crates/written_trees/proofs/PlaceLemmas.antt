@@ -3,7 +3,7 @@ use Rattle.std.proofs.Common.{◌≡◌, ℕ, zero, suc, ◌+◌, ◌-◌, ◌<�
 use Rattle.std.proofs.lemmas.Bool.Decides.{nat_tests}
 use Rattle.std.proofs.lemmas.List.Elements.{All-head, All-tail}
 use Rattle.game_core.specs.declared.tree.Node.{Node}
-use Rattle.game_core.specs.Tree.{InformationSet, OpenBranch, branches_after, action_count, AreInPrefixOrder}
+use Rattle.game_core.specs.Tree.{InformationSet, OpenBranch, branches_from, action_count, AreInPrefixOrder}
 use Rattle.written_trees.specs.Building.{Branching, open_branches, take_branch, add_branches}
 
 -- ---- open branches
@@ -14,7 +14,7 @@ open_branches-take b rest lt = rw (more, add-one b.next) (go (nat_lt (suc b.next
     more : b.count - b.next ≡ suc (b.count - suc b.next)
     more = omega arith
 
-    go : (v : Bool) → nat_lt (suc b.next) b.count ≡ v → (b.node, b.next) ∷ (branches_after b.node (suc b.next) (b.count - suc b.next) ++ open_branches rest)
+    go : (v : Bool) → nat_lt (suc b.next) b.count ≡ v → (b.node, b.next) ∷ (branches_from b.node (suc b.next) (b.count - suc b.next) ++ open_branches rest)
         ≡ (b.node, b.next) ∷ open_branches (cond v (record { node = b.node; next = suc b.next; count = b.count; depth = b.depth } ∷ rest) rest)
     go true e = refl
     go false e =
@@ -22,7 +22,7 @@ open_branches-take b rest lt = rw (more, add-one b.next) (go (nat_lt (suc b.next
         rw none refl
 
 -- the places of a new node come first
-pub open_branches-add : (k count depth : ℕ) (rest : List Branching) → open_branches (add_branches k count depth rest) ≡ branches_after (Some k) 0 count ++ open_branches rest
+pub open_branches-add : (k count depth : ℕ) (rest : List Branching) → open_branches (add_branches k count depth rest) ≡ branches_from (Some k) 0 count ++ open_branches rest
 open_branches-add k zero depth rest = refl
 open_branches-add k (suc n) depth rest =
     let some : nat_lt 0 (suc n) ≡ true = grind (arith, nat_tests) in
@@ -32,7 +32,7 @@ open_branches-add k (suc n) depth rest =
 -- ---- prefix order
 -- one more node takes the first open branch
 pub order_more : (sets : List InformationSet) (k : ℕ) (nodes : List Node) (node : Node) (free before : List OpenBranch) → AreInPrefixOrder sets k nodes free ((node.parent, node.branch) ∷ before)
-    → AreInPrefixOrder sets k (nodes ++ node ∷ []) free (branches_after (Some (k + length nodes)) 0 (action_count sets node.set) ++ before)
+    → AreInPrefixOrder sets k (nodes ++ node ∷ []) free (branches_from (Some (k + length nodes)) 0 (action_count sets node.set) ++ before)
 order_more sets k [] node [] before h = absurd (cc)
 order_more sets k [] node (place ∷ free) before h =
     let e : k + 0 ≡ k = omega arith in

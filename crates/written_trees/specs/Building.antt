@@ -12,7 +12,7 @@ use Rattle.game_core.specs.declared.tree.Kind.{Kind}
 use Rattle.game_core.specs.declared.tree.Node.{Node}
 use Rattle.game_core.specs.declared.too_large.What.{What}
 use Rattle.game_core.specs.declared.too_large.What.TheVariants.{Nodes, Depth}
-use Rattle.game_core.specs.Tree.{GameTree, InformationSet, TreeOutcome, OpenBranch, most_nodes, most_depth, branches_after}
+use Rattle.game_core.specs.Tree.{GameTree, InformationSet, TreeOutcome, OpenBranch, most_nodes, most_depth, branches_from}
 use Rattle.written_trees.specs.Written.{SetUse, OutcomeUse, WrittenNode}
 use Rattle.written_trees.specs.Described.{SetKey, key_of, same_set, kind_of_use}
 
@@ -114,7 +114,7 @@ pub record Branching : Type 0 where
   pub depth : ℕ
 
 abbrev pub open_branches : List Branching → List OpenBranch
-open_branches branchings = flat_map (λ b. branches_after b.node b.next (b.count - b.next)) branchings
+open_branches branchings = flat_map (λ b. branches_from b.node b.next (b.count - b.next)) branchings
 
 -- the branchings after the first open branch is taken
 abbrev pub take_branch : Branching → List Branching → List Branching
@@ -150,11 +150,11 @@ partial_count sets None = 0
 partial_count sets (Some s) = slice_index_or (map (λ set. length set.actions) sets) s 0
 
 -- the sets with the one that a node uses, who chooses there, and that set's place
-abbrev pub Choice : Type 0
-Choice = List PartialSet × (Kind × Option ℕ)
+abbrev pub UsedSet : Type 0
+UsedSet = List PartialSet × (Kind × Option ℕ)
 
 -- the tree with one more node of these parts, at the first open branch
-abbrev pub with_parts : PartialTree → Branching → List Branching → Choice → List PartialOutcome × Option ℕ → PartialTree
+abbrev pub with_parts : PartialTree → Branching → List Branching → UsedSet → List PartialOutcome × Option ℕ → PartialTree
 with_parts partial b rest choice outcome = record {
   nodes = partial.nodes ++ record { kind = choice.1.0; parent = b.node; branch = b.next; set = choice.1.1; outcome = outcome.1 } ∷ [];
   sets = choice.0;

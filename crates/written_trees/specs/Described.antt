@@ -143,6 +143,7 @@ pub record StandsFor (keys : List SetKey) (labels : List ℕ) (node : Node) (wri
   pub set_is : Names keys node.set (option_map key_of written.set)
   pub outcome_is : Names labels node.outcome (option_map (λ used. used.label) written.outcome)
 
+-- the nodes stand for the written ones, one by one
 abbrev pub StandForEach : List SetKey → List ℕ → List Node → List WrittenNode → Type 0
 StandForEach keys labels [] [] = Unit {0}
 StandForEach keys labels (node ∷ nodes) (one ∷ written) = StandsFor keys labels node one × StandForEach keys labels nodes written

@@ -20,7 +20,7 @@ use Rattle.sequence_forms.proofs.MatrixLemmas.{row-whole, row-set, columns_net}
 use Rattle.sequence_forms.proofs.PriceLemmas.{price_if}
 use Rattle.sequence_forms.proofs.SideLemmas.{first_up, first_pos, place-empty, place-set, sequence_below}
 use Rattle.sequence_forms.proofs.FlowLemmas.{ordered_flow}
-use Rattle.zero_sum_lp.specs.Paths.{LinearProgram, IsLinearProgram, IsUnbounded}
+use Rattle.zero_sum_lp.specs.Paths.{LinearProgram, IsFeasibleAndBounded, IsUnbounded}
 use Rattle.zero_sum_lp.specs.Programs.{constraints, IsProgramOf}
 use Rattle.zero_sum_lp.proofs.PlanWeightLemmas.{each_sequence}
 use Rattle.zero_sum_lp.proofs.ProgramLemmas.{is_program, is_start, right_nonneg, program_one, program_two, program_goal}
@@ -100,9 +100,9 @@ module _ (rows columns : Side) (gain : ℕ → ℕ → ℚ) (g : LinearProgram) 
   not_unbounded =
       lt_irrefl zero_ℚ (linear (ray.along (g.start.basic (constraints rows columns)) ∷ ray.along (g.start.nonbasic (sequences rows + 0)) ∷ []) ((lit (pos 0) ⟨<⟩ at 0) ∷ ((at 0 ⟨-⟩ at 1) ⟨=⟩ lit (pos 0)) ∷ (at 1 ⟨=⟩ lit (pos 0)) ∷ []) (lit (pos 0) ⟨<⟩ lit (pos 0)) (λ one z u v. omega (arith, ints)) (ray.up, (sym (program_goal (suc rows.sets) (sequences rows) (suc columns.sets) (sequences columns) (set_row rows) (set_row columns) gain g.start ray.along (is_program rows columns gain g p) (omega arith)) ∙ solves (constraints rows columns) (omega arith), (q_zero 0 (omega arith), tt))))
 
--- the program is a linear program
-pub programs_linear : (rows columns : Side) (gain : ℕ → ℕ → ℚ) (g : LinearProgram) → IsOrderedSide rows → IsOrderedSide columns → IsProgramOf rows columns gain g → IsLinearProgram g
-programs_linear rows columns gain g ro co p =
+-- the program is feasible and bounded
+pub programs_feasible_and_bounded : (rows columns : Side) (gain : ℕ → ℕ → ℚ) (g : LinearProgram) → IsOrderedSide rows → IsOrderedSide columns → IsProgramOf rows columns gain g → IsFeasibleAndBounded g
+programs_feasible_and_bounded rows columns gain g ro co p =
     let w : suc (constraints rows columns) ≡ g.start.rows = p.start.rows in
     let m : g.rated ≡ constraints rows columns = p.rated in
     record {

@@ -17,17 +17,17 @@ use Rattle.sequence_forms.specs.Sides.{first, sequences, IsOrderedSide}
 use Rattle.sequence_forms.proofs.FlowLemmas.{ordered_flow}
 use Rattle.sequence_forms.proofs.MatrixLemmas.{row-whole, row-set, columns_net}
 use Rattle.zero_sum_lp.specs.Paths.{LinearProgram, IsAfter, IsOptimal}
-use Rattle.zero_sum_lp.specs.Plans.{IsRaised, IsCut}
+use Rattle.zero_sum_lp.specs.Plans.{IsRaised, IsTrimmed}
 use Rattle.zero_sum_lp.specs.Programs.{constraints, IsProgramOf, price_one, price_two, raw_one, raw_two}
-use Rattle.zero_sum_lp.proofs.BoundedObjectiveLemmas.{programs_linear}
+use Rattle.zero_sum_lp.proofs.BoundedObjectiveLemmas.{programs_feasible_and_bounded}
 use Rattle.zero_sum_lp.proofs.DeterminedPathLemmas.{after_on_path}
 use Rattle.zero_sum_lp.proofs.OptimalRowLemmas.{IsEnd, turned, coef_nonneg, column_one, column_two, row_one, row_two, firsts, nonneg_column}
-use Rattle.zero_sum_lp.proofs.PlanWeightLemmas.{raised_above, raised_plan, cut_below, cut_plan}
+use Rattle.zero_sum_lp.proofs.PlanWeightLemmas.{raised_above, raised_plan, trimmed_below, trimmed_plan}
 use Rattle.zero_sum_lp.proofs.ProgramLemmas.{IsProgram, is_program, is_start, basic_is}
 
 module _ (f : SequenceForm) (least : ℚ) (g : LinearProgram) (n : ℕ) (t : Tableau) (ro : IsOrderedSide f.rows) (co : IsOrderedSide f.columns) (p : IsProgramOf f.rows f.columns (gains f least) g) (after : IsAfter g n t) (optimal : IsOptimal g.rated t) where
   ends : IsEnd g.bound (constraints f.rows f.columns) g.start t
-  ends = subst (λ m. IsEnd g.bound m g.start t) p.rated (record { on_path = after_on_path g n t (programs_linear f.rows f.columns (gains f least) g ro co p) after; none = optimal })
+  ends = subst (λ m. IsEnd g.bound m g.start t) p.rated (record { on_path = after_on_path g n t (programs_feasible_and_bounded f.rows f.columns (gains f least) g ro co p) after; none = optimal })
 
   program : IsProgram (suc f.rows.sets) (sequences f.rows) (suc f.columns.sets) (sequences f.columns) (set_row f.rows) (set_row f.columns) (gains f least) g.start
   program = is_program f.rows f.columns (gains f least) g p
@@ -84,15 +84,15 @@ module _ (f : SequenceForm) (least : ℚ) (g : LinearProgram) (n : ℕ) (t : Tab
       linear (sum_to (f.columns.count j) (λ a. raw_two f.rows f.columns t (first f.columns j + a)) ∷ raw_two f.rows f.columns t (f.columns.before j) ∷ []) ((lit (pos 0) ⟨≤⟩ (at 0 ⟨-⟩ at 1)) ∷ []) (at 1 ⟨≤⟩ at 0) (λ one z u v. omega (arith, ints)) (subst₂ (λ u v. u ≤ℚ v) (unit_other 0 (suc j) (omega arith)) (row-set f.columns (raw_two f.rows f.columns t) j (ordered_flow f.columns co).side hj) (weights_columns (suc j) (omega arith)), tt)
 
   -- ---- the proof of the value
-  pub value_proved : (x y : ℕ → ℚ) → ((r q : ℕ) → r < sequences f.rows → q < sequences f.columns → zero_ℚ ≤ℚ gains f least r q) → IsRaised f.rows (raw_one f.rows f.columns t) x → IsCut f.columns (raw_two f.rows f.columns t) y → IsValueProof f least x y (price_one f.rows f.columns t) (price_two f.rows f.columns t) (price_two f.rows f.columns t 0 +ℚ least)
+  pub value_proved : (x y : ℕ → ℚ) → ((r q : ℕ) → r < sequences f.rows → q < sequences f.columns → zero_ℚ ≤ℚ gains f least r q) → IsRaised f.rows (raw_one f.rows f.columns t) x → IsTrimmed f.columns (raw_two f.rows f.columns t) y → IsValueProof f least x y (price_one f.rows f.columns t) (price_two f.rows f.columns t) (price_two f.rows f.columns t 0 +ℚ least)
   value_proved x y sign r c =
       record {
         row_plan = raised_plan f.rows ro (raw_one f.rows f.columns t) x r raw_one_empty raw_one_sets raw_one_sign;
-        column_plan = cut_plan f.columns co (raw_two f.rows f.columns t) y c raw_two_sign raw_two_empty raw_two_sets;
+        column_plan = trimmed_plan f.columns co (raw_two f.rows f.columns t) y c raw_two_sign raw_two_empty raw_two_sets;
         row_prices = λ k hk. coef_nonneg t (constraints f.rows f.columns) (suc k) ends.none;
         column_prices = λ k hk. subst (λ v. zero_ℚ ≤ℚ basic_solution t v) (variable (sequences f.rows + k) (omega arith)) (nonneg_column (suc f.rows.sets) (sequences f.rows) (suc f.columns.sets) (sequences f.columns) (set_row f.rows) (set_row f.columns) (gains f least) g.bound g.start t program start ends (sequences f.rows + k) (omega arith));
         same_first = same_first;
         value_is = ap (λ u. u +ℚ least) (sym same_first);
-        row_gains = λ q hq. subst (λ u. row_sum f (gains f least) y q ≤ℚ u) (columns_net f.rows (price_one f.rows f.columns t) q hq) (le_trans _ _ _ (sum_to-le (sequences f.columns) _ _ (λ s hs. le-mul_right (gains f least q s) (y s) (raw_two f.rows f.columns t s) (sign q s hq hs) (cut_below f.columns co (raw_two f.rows f.columns t) y c raw_two_sign raw_two_empty raw_two_sets s hs))) (prices_rows q hq));
+        row_gains = λ q hq. subst (λ u. row_sum f (gains f least) y q ≤ℚ u) (columns_net f.rows (price_one f.rows f.columns t) q hq) (le_trans _ _ _ (sum_to-le (sequences f.columns) _ _ (λ s hs. le-mul_right (gains f least q s) (y s) (raw_two f.rows f.columns t s) (sign q s hq hs) (trimmed_below f.columns co (raw_two f.rows f.columns t) y c raw_two_sign raw_two_empty raw_two_sets s hs))) (prices_rows q hq));
         column_gains = λ q hq. subst (λ u. u ≤ℚ column_sum f (gains f least) x q) (columns_net f.columns (price_two f.rows f.columns t) q hq) (le_trans _ _ _ (prices_columns q hq) (sum_to-le (sequences f.rows) _ _ (λ s hs. le-mul_right (gains f least s q) (raw_one f.rows f.columns t s) (x s) (sign s q hs hq) (raised_above f.rows ro (raw_one f.rows f.columns t) x r raw_one_empty raw_one_sets s hs))));
       }

@@ -1,4 +1,4 @@
--- Raw weights make one plan where they are raised, and one where they are cut.
+-- Raw weights make one plan where they are raised, and one where they are trimmed.
 use Rattle.std.proofs.Common.{ℕ, zero, suc, ◌+◌, ◌-◌, ◌<◌, ◌≤◌, ◌≡◌, inl, inr, cond, ltb, refl, sym, ap, ap₂, ◌∙◌, subst, subst₂, arith, add-one}
 use Rattle.std.proofs.lemmas.Bool.{cases_eq, cases_lt, cond-true, cond-false, lt-ltb, le-ltb}
 use Rattle.rational.specs.Extremes.{IsLesser}
@@ -9,7 +9,7 @@ use Rattle.rational.proofs.SumLemmas.{sum_to-same}
 use Rattle.linear_systems.proofs.LexRowLemmas.{below_cases}
 use Rattle.sequence_forms.specs.Sides.{Side, first, sequences, IsOrderedSide}
 use Rattle.sequence_forms.proofs.SideLemmas.{first_up, first_pos, sequence_below}
-use Rattle.zero_sum_lp.specs.Plans.{IsRaised, IsCut}
+use Rattle.zero_sum_lp.specs.Plans.{IsRaised, IsTrimmed}
 use Rattle.zero_sum_lp.specs.PlanLists.{AreShares}
 use Rattle.zero_sum_lp.proofs.PlanStepLemmas.{Agree, before_below, rest_begins, rest_next}
 use Rattle.zero_sum_lp.proofs.PlanWeightLemmas.{each_sequence, lesser_once}
@@ -72,7 +72,7 @@ is_raised d o x =
       others = λ j a h p l. filled_set d (raised_weight d x) o j a h l ∙ other_weight d x j _ a p;
     }
 
--- ---- the plan that is cut
+-- ---- the plan that is trimmed
 some_lesser : (a b : ℚ) → (c : ℚ) × IsLesser a b c
 some_lesser a b = elim (le_total a b) [
   | inl l ↦ (a, record { is_one = inl refl; left = le_refl a; right = l })
@@ -95,18 +95,18 @@ left_is w x (suc n) = rest_next w (share w x) n (left_after w x n) (share w x n)
 are_shares : (w : ℚ) (x : ℕ → ℚ) (n : ℕ) → AreShares w x (share w x) n
 are_shares w x n a l = subst (λ b. IsLesser (x a) b (share w x a)) (left_is w x a) (some_lesser (x a) (left_after w x a)).1
 
-abbrev cut_weight : Side → (ℕ → ℚ) → ℕ → ℚ → ℕ → ℚ
-cut_weight d x j w a = share w (λ b. x (first d j + b)) a
+abbrev trimmed_weight : Side → (ℕ → ℚ) → ℕ → ℚ → ℕ → ℚ
+trimmed_weight d x j w a = share w (λ b. x (first d j + b)) a
 
-pub cut_plan : Side → (ℕ → ℚ) → ℕ → ℚ
-cut_plan d x = filled d (cut_weight d x) d.sets
+pub trimmed_plan : Side → (ℕ → ℚ) → ℕ → ℚ
+trimmed_plan d x = filled d (trimmed_weight d x) d.sets
 
-pub is_cut : (d : Side) → IsOrderedSide d → (x : ℕ → ℚ) → IsCut d x (cut_plan d x)
-unfolding cut_plan
-is_cut d o x =
+pub is_trimmed : (d : Side) → IsOrderedSide d → (x : ℕ → ℚ) → IsTrimmed d x (trimmed_plan d x)
+unfolding trimmed_plan
+is_trimmed d o x =
     record {
-      empty = filled_empty d (cut_weight d x) d.sets;
-      shares = λ j a h l. (let at = filled_set d (cut_weight d x) o j in subst₂ (λ b c. IsLesser (x (first d j + a)) (cut_plan d x (d.before j) -ℚ b) c) (sum_to-same a _ _ (λ b k. sym (at b h (omega (arith, l, k))))) (sym (at a h l)) (are_shares (cut_plan d x (d.before j)) (λ b. x (first d j + b)) (d.count j) a l));
+      empty = filled_empty d (trimmed_weight d x) d.sets;
+      shares = λ j a h l. (let at = filled_set d (trimmed_weight d x) o j in subst₂ (λ b c. IsLesser (x (first d j + a)) (trimmed_plan d x (d.before j) -ℚ b) c) (sum_to-same a _ _ (λ b k. sym (at b h (omega (arith, l, k))))) (sym (at a h l)) (are_shares (trimmed_plan d x (d.before j)) (λ b. x (first d j + b)) (d.count j) a l));
     }
 
 -- ---- shares are one
@@ -143,15 +143,15 @@ module _ (d : Side) (o : IsOrderedSide d) where
       at : (j : ℕ) → j < d.sets → first d j < sequences d
       at j h = let b = sequence_below d j 0 h (o.some_action j h) in omega arith
 
-  -- ---- cut plans
-  pub cut_once : (x z z' : ℕ → ℚ) → IsCut d x z → IsCut d x z' → Agree d z z'
-  cut_once x z z' r s =
+  -- ---- trimmed plans
+  pub trimmed_once : (x z z' : ℕ → ℚ) → IsTrimmed d x z → IsTrimmed d x z' → Agree d z z'
+  trimmed_once x z z' r s =
       agree z z' (r.empty ∙ sym s.empty) (λ j h before.
       shares_once (z (d.before j)) (λ a. x (first d j + a)) (λ a. z (first d j + a)) (λ a. z' (first d j + a)) (d.count j) (λ a l. r.shares j a h l)
       (λ a l. subst (λ w. IsLesser (x (first d j + a)) (w -ℚ sum_to a (λ b. z' (first d j + b))) (z' (first d j + a))) (sym before) (s.shares j a h l)))
 
-  pub cut_as : (x y z z' : ℕ → ℚ) → Agree d x y → Agree d z z' → IsCut d x z → IsCut d y z'
-  cut_as x y z z' e f r =
+  pub trimmed_as : (x y z z' : ℕ → ℚ) → Agree d x y → Agree d z z' → IsTrimmed d x z → IsTrimmed d y z'
+  trimmed_as x y z z' e f r =
       record {
         empty = sym (f 0 (first_pos d.count d.sets)) ∙ r.empty;
         shares = λ j a h l. subst (λ b. IsLesser b (z' (d.before j) -ℚ sum_to a (λ b. z' (first d j + b))) (z' (first d j + a))) (e (first d j + a) (sequence_below d j a h l)) (subst₂ (λ b c. IsLesser (x (first d j + a)) b c) (ap₂ (λ b c. b -ℚ c) (f (d.before j) (before_below d o j h)) (sum_to-same a _ _ (λ b k. f (first d j + b) (sequence_below d j b h (omega (arith, k, l)))))) (f (first d j + a) (sequence_below d j a h l)) (r.shares j a h l));

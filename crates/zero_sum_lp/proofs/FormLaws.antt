@@ -1,6 +1,6 @@
 -- The program of a form, read off its stages.
 use Rattle.std.proofs.Common.{◌≡◌, refl, subst}
-use Rattle.lex_tableau.specs.StartStops.{IsStarted}
+use Rattle.lex_tableau.specs.StartStops.{IsStartTableau}
 use Rattle.sequence_forms.specs.Prices.{gains}
 use Rattle.sequence_data.specs.Data.{form}
 use Rattle.sequence_data.proofs.GainLemmas.{gains_positive}
@@ -15,7 +15,7 @@ programs_of_forms f p valid stages =
     let n = last.0 in
     let s = last.1.0 in
     let is_system : IsSystemOf f s = last.1.1.0 in
-    let start : IsStarted s n = last.1.1.1.2 in
+    let start : IsStartTableau s n = last.1.1.1.2 in
     let same : with_start f n ≡ p = cc (last.2) in
     let begins : IsStartFor f.first f.second n = starts_for f.first f.second s n (gains (form f) f.least_one) is_system start.start start.valid in
     subst (λ p. IsProgram p × IsProgramOfForm (form f) f.least_one p) same (

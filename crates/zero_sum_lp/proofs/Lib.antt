@@ -1,5 +1,4 @@
 pub mod BoundedObjectiveLemmas
-pub mod CutListLemmas
 pub mod DeterminedPathLemmas
 pub mod EndPriceLemmas
 pub mod EnteringColumnLemmas
@@ -27,5 +26,6 @@ pub mod ProgramStepLemmas
 pub mod RayLemmas
 pub mod SystemLemmas
 pub mod SystemStartLemmas
+pub mod TrimmedListLemmas
 pub mod UnitLemmas
 pub mod ValueLemmas

@@ -5,7 +5,7 @@ use Rattle.rational.specs.Rational.{ℚ}
 use Rattle.linear_systems.specs.Rows.{basic_solution, coefficient}
 use Rattle.sequence_forms.specs.Sides.{sequences}
 use Rattle.zero_sum_lp.specs.Programs.{constraints, price_one, price_two}
-use Rattle.zero_sum_lp.proofs.BoundedObjectiveLemmas.{programs_linear}
+use Rattle.zero_sum_lp.proofs.BoundedObjectiveLemmas.{programs_feasible_and_bounded}
 use Rattle.zero_sum_lp.proofs.DeterminedPathLemmas.{after_on_path}
 use Rattle.zero_sum_lp.proofs.ObjectiveGrowthLemmas.{IsLexicographicallyFeasible}
 use Rattle.zero_sum_lp.proofs.ProgramLemmas.{basic_last}
@@ -17,7 +17,7 @@ use Rattle.zero_sum_lp.proofs.PathWalkLemmas.{leads_after}
 
 pub program_starts : (p : Program) → IsProgram p → IsProgramStart p.tableau
 program_starts p h =
-    record { basics = h.start.basics; program = programs_linear (side_of p.first) (side_of p.second) h.start.gain (linear_program p.tableau) h.first.ordered h.second.ordered h.start.program }
+    record { basics = h.start.basics; program = programs_feasible_and_bounded (side_of p.first) (side_of p.second) h.start.gain (linear_program p.tableau) h.first.ordered h.second.ordered h.start.program }
 
 -- how many sets a side has
 pub sets_are : (sets : SideData) → (side_of sets).sets ≡ length sets.sets

@@ -11,10 +11,10 @@ use Rattle.sequence_data.specs.Data.{IsSideData, SideData, side_of}
 use Rattle.rational.specs.Sum.{entry_at}
 use Rattle.zero_sum_lp.specs.Parts.{HasShape, Program, IsOptimum, first_raw, second_raw}
 use Rattle.zero_sum_lp.specs.PlanLists.{AreWeights}
-use Rattle.zero_sum_lp.specs.PlanStops.{cut_in, raised_in}
+use Rattle.zero_sum_lp.specs.PlanStops.{raised_in, trimmed_in}
 use Rattle.zero_sum_lp.specs.Programs.{constraints, raw_one, raw_two}
 use Rattle.zero_sum_lp.proofs.OptimumLemmas.{sets_are}
-use Rattle.zero_sum_lp.proofs.PlanStageLemmas.{cut_in-as, raised_in-as}
+use Rattle.zero_sum_lp.proofs.PlanStageLemmas.{raised_in-as, trimmed_in-as}
 
 -- ---- lists of weights
 pub weights_push : (n : ℕ) (x : ℕ → ℚ) (xs ys : List ℚ) (v : ℚ) → AreWeights n x xs → v ≡ x n → ys ≡ xs ++ v ∷ [] → AreWeights (n + 1) x ys
@@ -48,5 +48,5 @@ module _ (o : Program) (sets : SideData) (raw : List ℚ) (h : IsSideData sets) 
   pub first_answer : sets ≡ o.first → AreWeights (sequences (side_of o.first)) (first_raw o) raw → raised_in (side_of sets) (entry_at raw) answer → raised_in (side_of o.first) (first_raw o) answer
   first_answer e w r = raised_in-as (side_of o.first) (subst IsSideData e h).ordered (entry_at raw) (first_raw o) answer w.same (subst (λ s. raised_in (side_of s) (entry_at raw) answer) e r)
 
-  pub second_answer : sets ≡ o.second → AreWeights (sequences (side_of o.second)) (second_raw o) raw → cut_in (side_of sets) (entry_at raw) answer → cut_in (side_of o.second) (second_raw o) answer
-  second_answer e w r = cut_in-as (side_of o.second) (subst IsSideData e h).ordered (entry_at raw) (second_raw o) answer w.same (subst (λ s. cut_in (side_of s) (entry_at raw) answer) e r)
+  pub second_answer : sets ≡ o.second → AreWeights (sequences (side_of o.second)) (second_raw o) raw → trimmed_in (side_of sets) (entry_at raw) answer → trimmed_in (side_of o.second) (second_raw o) answer
+  second_answer e w r = trimmed_in-as (side_of o.second) (subst IsSideData e h).ordered (entry_at raw) (second_raw o) answer w.same (subst (λ s. trimmed_in (side_of s) (entry_at raw) answer) e r)

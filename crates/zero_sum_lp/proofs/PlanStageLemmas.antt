@@ -11,11 +11,11 @@ use Rattle.frac128.specs.Steps.{Step, StepFits, IsFirstUnfit}
 use Rattle.frac128.proofs.FirstUnfitLemmas.{all_steps_fit-single}
 use Rattle.sequence_forms.specs.Sides.{Side, sequences, IsOrderedSide}
 use Rattle.rational.specs.Sum.{entry_at}
-use Rattle.zero_sum_lp.specs.Plans.{IsRaised, IsCut}
-use Rattle.zero_sum_lp.specs.PlanSteps.{raising_steps, cutting_steps}
-use Rattle.zero_sum_lp.specs.PlanStops.{IsCutPlan, IsRaisedPlan, cut_in, plan_in, raised_in}
-use Rattle.zero_sum_lp.proofs.ExactPlanLemmas.{cut_as, cut_once, raised_as, raised_once}
-use Rattle.zero_sum_lp.proofs.PlanStepLemmas.{Agree, cutting_same, raising_same}
+use Rattle.zero_sum_lp.specs.Plans.{IsRaised, IsTrimmed}
+use Rattle.zero_sum_lp.specs.PlanSteps.{raising_steps, trimming_steps}
+use Rattle.zero_sum_lp.specs.PlanStops.{IsRaisedPlan, IsTrimmedPlan, plan_in, raised_in, trimmed_in}
+use Rattle.zero_sum_lp.proofs.ExactPlanLemmas.{raised_as, raised_once, trimmed_as, trimmed_once}
+use Rattle.zero_sum_lp.proofs.PlanStepLemmas.{Agree, raising_same, trimming_same}
 
 -- ---- plans with a property
 module _ (is_plan : List ℚ → Type 0) (steps : List ℚ → List Step) where
@@ -76,21 +76,21 @@ module _ (d : Side) (o : IsOrderedSide d) where
       plan_in-as (IsRaisedPlan d x) (λ plan. raising_steps d x (entry_at plan)) (IsRaisedPlan d y) (λ plan. raising_steps d y (entry_at plan)) answer
       (λ plan h. (h.0, raised_as d o x y (entry_at plan) (entry_at plan) e (λ q l. refl) h.1)) (λ plan. raising_same d o x y (entry_at plan) (entry_at plan) e (λ q l. refl))
 
-  -- ---- cut plans
-  pub cut_in-single : (x : ℕ → ℚ) → IsSingle (cut_in d x)
-  cut_in-single x = plan_in-single (IsCutPlan d x) (λ plan. cutting_steps d (entry_at plan)) (λ a b h k. weights_once d a b h.0 k.0 (cut_once d o x (entry_at a) (entry_at b) h.1 k.1))
+  -- ---- trimmed plans
+  pub trimmed_in-single : (x : ℕ → ℚ) → IsSingle (trimmed_in d x)
+  trimmed_in-single x = plan_in-single (IsTrimmedPlan d x) (λ plan. trimming_steps d (entry_at plan)) (λ a b h k. weights_once d a b h.0 k.0 (trimmed_once d o x (entry_at a) (entry_at b) h.1 k.1))
 
-  pub cut_in-made : (x z : ℕ → ℚ) (plan : List ℚ) → length plan ≡ sequences d → Agree d z (entry_at plan) → IsCut d x z → All StepFits (cutting_steps d z) → cut_in d x (Ok plan)
-  cut_in-made x z plan c e r f =
-      plan_in-made (IsCutPlan d x) (λ plan. cutting_steps d (entry_at plan)) plan (c, cut_as d o x x z (entry_at plan) (λ q l. refl) e r) (subst (All StepFits) (cutting_same d o z (entry_at plan) e) f)
+  pub trimmed_in-made : (x z : ℕ → ℚ) (plan : List ℚ) → length plan ≡ sequences d → Agree d z (entry_at plan) → IsTrimmed d x z → All StepFits (trimming_steps d z) → trimmed_in d x (Ok plan)
+  trimmed_in-made x z plan c e r f =
+      plan_in-made (IsTrimmedPlan d x) (λ plan. trimming_steps d (entry_at plan)) plan (c, trimmed_as d o x x z (entry_at plan) (λ q l. refl) e r) (subst (All StepFits) (trimming_same d o z (entry_at plan) e) f)
 
-  pub cut_in-stop : (x z : ℕ → ℚ) (u : Step) → IsCut d x z → IsFirstUnfit (cutting_steps d z) u → cut_in d x (Err u)
-  cut_in-stop x z u r f =
+  pub trimmed_in-stop : (x z : ℕ → ℚ) (u : Step) → IsTrimmed d x z → IsFirstUnfit (trimming_steps d z) u → trimmed_in d x (Err u)
+  trimmed_in-stop x z u r f =
       let plan = weights_of d z in
-      plan_in-stop (IsCutPlan d x) (λ plan. cutting_steps d (entry_at plan)) plan u (length-map-range_with_len z 0 (sequences d), cut_as d o x x z (entry_at plan) (λ q l. refl) (weights_there d z) r)
-      (subst (λ ss. IsFirstUnfit ss u) (cutting_same d o z (entry_at plan) (weights_there d z)) f)
+      plan_in-stop (IsTrimmedPlan d x) (λ plan. trimming_steps d (entry_at plan)) plan u (length-map-range_with_len z 0 (sequences d), trimmed_as d o x x z (entry_at plan) (λ q l. refl) (weights_there d z) r)
+      (subst (λ ss. IsFirstUnfit ss u) (trimming_same d o z (entry_at plan) (weights_there d z)) f)
 
-  pub cut_in-as : (x y : ℕ → ℚ) (answer : Result (List ℚ) Step) → Agree d x y → cut_in d x answer → cut_in d y answer
-  cut_in-as x y answer e =
-      plan_in-as (IsCutPlan d x) (λ plan. cutting_steps d (entry_at plan)) (IsCutPlan d y) (λ plan. cutting_steps d (entry_at plan)) answer
-      (λ plan h. (h.0, cut_as d o x y (entry_at plan) (entry_at plan) e (λ q l. refl) h.1)) (λ plan. refl)
+  pub trimmed_in-as : (x y : ℕ → ℚ) (answer : Result (List ℚ) Step) → Agree d x y → trimmed_in d x answer → trimmed_in d y answer
+  trimmed_in-as x y answer e =
+      plan_in-as (IsTrimmedPlan d x) (λ plan. trimming_steps d (entry_at plan)) (IsTrimmedPlan d y) (λ plan. trimming_steps d (entry_at plan)) answer
+      (λ plan h. (h.0, trimmed_as d o x y (entry_at plan) (entry_at plan) e (λ q l. refl) h.1)) (λ plan. refl)

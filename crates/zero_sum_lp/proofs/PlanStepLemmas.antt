@@ -13,17 +13,21 @@ use Rattle.rational.proofs.SumLemmas.{sum_to-same}
 use Rattle.rational.proofs.Ring.{ring, num, ◌:+◌, ◌:-◌, A, B, C}
 use Rattle.linear_systems.proofs.LexRowLemmas.{below_cases}
 use Rattle.frac128.specs.declared.steps.Op.TheVariants.{Add, Sub}
-use Rattle.frac128.specs.Steps.{AddFits, SubFits, unfit, Step, StepFits, IsFirstUnfit}
+use Rattle.frac128.specs.Steps.{AddFits, SubFits, step_of, Step, StepFits, IsFirstUnfit}
 use Rattle.frac128.proofs.StepRunLemmas.{first_unfit-more, first_unfit-following, fits-more, unfit-more}
 use Rattle.sequence_forms.specs.Sides.{Side, first, sequences, IsOrderedSide}
 use Rattle.sequence_forms.proofs.SideLemmas.{first_up, sequence_below}
-use Rattle.zero_sum_lp.specs.PlanSteps.{rest_steps, raise_steps, raising_steps, cutting_steps}
+use Rattle.zero_sum_lp.specs.PlanSteps.{rest_steps, raise_steps, raising_steps, trimming_steps}
 
 -- ---- steps
+-- the step of one action more
+rest_more : (w : ℚ) (x : ℕ → ℚ) (n : ℕ) → rest_steps w x (suc n) ≡ rest_steps w x n ++ step_of Sub (w -ℚ sum_to n x) (x n) ∷ []
+rest_more w x n = ap (rest_steps w x) (sym (add-one n)) ∙ map-range_with_len_more (λ a. step_of Sub (w -ℚ sum_to a x) (x a)) 0 n n (omega arith)
+
 pub rest_unfit : (w : ℚ) (x : ℕ → ℚ) (m n : ℕ) (e : Step) → m ≤ n → IsFirstUnfit (rest_steps w x m) e → IsFirstUnfit (rest_steps w x n) e
 rest_unfit w x m zero e l h = subst (λ k. IsFirstUnfit (rest_steps w x k) e) (let q : m ≡ 0 = omega arith in q) h
 rest_unfit w x m (suc n) e l h = elim (cases_lt m (suc n)) [
-  | inl k ↦ first_unfit-more (rest_steps w x n) (unfit Sub (w -ℚ sum_to n x) (x n) ∷ []) e (rest_unfit w x m n e (omega arith) h)
+  | inl k ↦ subst (λ steps. IsFirstUnfit steps e) (sym (rest_more w x n)) (first_unfit-more (rest_steps w x n) (step_of Sub (w -ℚ sum_to n x) (x n) ∷ []) e (rest_unfit w x m n e (omega arith) h))
   | inr k ↦ subst (λ i. IsFirstUnfit (rest_steps w x i) e) (let q : m ≡ suc n = omega arith in q) h
 ]
 
@@ -37,23 +41,27 @@ rest_next w x a r v l e f g =
 
 pub rest_fits : (w : ℚ) (x : ℕ → ℚ) (a : ℕ) (r v : ℚ) → r ≡ w -ℚ sum_to a x → v ≡ x a → SubFits r v → All StepFits (rest_steps w x a) → All StepFits (rest_steps w x (a + 1))
 rest_fits w x a r v e f s h =
-    subst (λ k. All StepFits (rest_steps w x k)) (sym (add-one a)) (fits-more (rest_steps w x a) (unfit Sub (w -ℚ sum_to a x) (x a)) h (subst₂ SubFits e f s))
+    subst (All StepFits) (sym (ap (rest_steps w x) (add-one a) ∙ rest_more w x a)) (fits-more (rest_steps w x a) (step_of Sub (w -ℚ sum_to a x) (x a)) h (subst₂ SubFits e f s))
 
-pub rest_fails : (w : ℚ) (x : ℕ → ℚ) (a n : ℕ) (r v : ℚ) (u : Step) → a < n → r ≡ w -ℚ sum_to a x → v ≡ x a → ¬ (SubFits r v) → u ≡ unfit Sub r v → All StepFits (rest_steps w x a) → IsFirstUnfit (rest_steps w x n) u
+pub rest_fails : (w : ℚ) (x : ℕ → ℚ) (a n : ℕ) (r v : ℚ) (u : Step) → a < n → r ≡ w -ℚ sum_to a x → v ≡ x a → ¬ (SubFits r v) → u ≡ step_of Sub r v → All StepFits (rest_steps w x a) → IsFirstUnfit (rest_steps w x n) u
 rest_fails w x a n r v u l e f s q h =
-    rest_unfit w x (suc a) n u (omega arith) (unfit-more (rest_steps w x a) (unfit Sub (w -ℚ sum_to a x) (x a)) u h (λ k. s (subst₂ SubFits (sym e) (sym f) k)) (q ∙ ap₂ (unfit Sub) e f))
+    rest_unfit w x (suc a) n u (omega arith)
+    (subst (λ steps. IsFirstUnfit steps u) (sym (rest_more w x a)) (unfit-more (rest_steps w x a) (step_of Sub (w -ℚ sum_to a x) (x a)) u h (λ k. s (subst₂ SubFits (sym e) (sym f) k)) (q ∙ ap₂ (step_of Sub) e f)))
 
 pub rest_same : (w : ℚ) (x y : ℕ → ℚ) (n : ℕ) → ((a : ℕ) → a < n → x a ≡ y a) → rest_steps w x n ≡ rest_steps w y n
 rest_same w x y zero h = refl
-rest_same w x y (suc n) h = ap₂ (λ ss s. ss ++ s ∷ []) (rest_same w x y n (λ a l. h a (omega arith))) (ap₂ (λ b c. unfit Sub (w -ℚ b) c) (sum_to-same n x y (λ a l. h a (omega arith))) (h n (omega arith)))
+rest_same w x y (suc n) h =
+    rest_more w x n
+    ∙ ap₂ (λ ss s. ss ++ s ∷ []) (rest_same w x y n (λ a l. h a (omega arith))) (ap₂ (λ b c. step_of Sub (w -ℚ b) c) (sum_to-same n x y (λ a l. h a (omega arith))) (h n (omega arith)))
+    ∙ sym (rest_more w y n)
 
 -- ---- a set that is raised
 pub raise_fits : (w : ℚ) (z : ℕ → ℚ) (f n : ℕ) (r v : ℚ) → r ≡ w -ℚ sum_to n (λ a. z (f + a)) → v ≡ z f → AddFits v r → All StepFits (rest_steps w (λ a. z (f + a)) n) → All StepFits (raise_steps w (λ a. z (f + a)) n)
 raise_fits w z f n r v e q s h =
-    fits-more (rest_steps w (λ a. z (f + a)) n) (unfit Add (z (f + 0)) (w -ℚ sum_to n (λ a. z (f + a)))) h (subst₂ AddFits (q ∙ ap z (let o : f ≡ f + 0 = omega arith in o)) e s)
+    fits-more (rest_steps w (λ a. z (f + a)) n) (step_of Add (z (f + 0)) (w -ℚ sum_to n (λ a. z (f + a)))) h (subst₂ AddFits (q ∙ ap z (let o : f ≡ f + 0 = omega arith in o)) e s)
 
 pub raise_same : (w : ℚ) (x y : ℕ → ℚ) (n : ℕ) → 0 < n → ((a : ℕ) → a < n → x a ≡ y a) → raise_steps w x n ≡ raise_steps w y n
-raise_same w x y n some h = ap₂ (λ ss s. ss ++ s ∷ []) (rest_same w x y n h) (ap₂ (λ b c. unfit Add b (w -ℚ c)) (h 0 some) (sum_to-same n x y h))
+raise_same w x y n some h = ap₂ (λ ss s. ss ++ s ∷ []) (rest_same w x y n h) (ap₂ (λ b c. step_of Add b (w -ℚ c)) (h 0 some) (sum_to-same n x y h))
 
 -- ---- one set after another
 -- the steps of the first n sets, where each set has these
@@ -98,6 +106,6 @@ module _ (d : Side) (o : IsOrderedSide d) where
   raising_same x y z z' e f =
       sets_same d _ _ (λ j h. ap (λ w. raise_steps w (λ a. x (first d j + a)) (d.count j)) (f (d.before j) (before_below j h)) ∙ raise_same (z' (d.before j)) _ _ (d.count j) (o.some_action j h) (λ a l. e (first d j + a) (sequence_below d j a h l)))
 
-  pub cutting_same : (z z' : ℕ → ℚ) → Agree d z z' → cutting_steps d z ≡ cutting_steps d z'
-  cutting_same z z' f =
+  pub trimming_same : (z z' : ℕ → ℚ) → Agree d z z' → trimming_steps d z ≡ trimming_steps d z'
+  trimming_same z z' f =
       sets_same d _ _ (λ j h. ap (λ w. rest_steps w (λ a. z (first d j + a)) (d.count j)) (f (d.before j) (before_below j h)) ∙ rest_same (z' (d.before j)) _ _ (d.count j) (λ a l. f (first d j + a) (sequence_below d j a h l)))

@@ -14,7 +14,7 @@ use Rattle.linear_systems.proofs.LexRowLemmas.{below_cases}
 use Rattle.sequence_forms.specs.Sides.{Side, first, sequences, IsOrderedSide, IsRealisationPlan}
 use Rattle.sequence_forms.specs.Matrices.{AreNotNegative}
 use Rattle.sequence_forms.proofs.SideLemmas.{first_up}
-use Rattle.zero_sum_lp.specs.Plans.{IsRaised, IsCut}
+use Rattle.zero_sum_lp.specs.Plans.{IsRaised, IsTrimmed}
 
 -- something that holds of the empty sequence, and of each set's where it holds of those before the set, holds of all
 pub each_sequence : (d : Side) (P : ℕ → Type 0) → IsOrderedSide d → P 0 → ((j : ℕ) → j < d.sets → P (d.before j) → (a : ℕ) → a < d.count j → P (first d j + a)) → (n : ℕ) → n ≤ d.sets → (q : ℕ) → q < first d n → P q
@@ -58,7 +58,7 @@ module _ (d : Side) (o : IsOrderedSide d) (x z : ℕ → ℚ) (r : IsRaised d x 
       some zero j e h l = absurd (omega arith)
       some (suc n) j e h l = raised_splits j n h e
 
--- ---- cut
+-- ---- trimmed
 -- one number is the less of two
 pub lesser_once : (a b c k : ℚ) → IsLesser a b c → IsLesser a b k → c ≡ k
 lesser_once a b c k h g = le_antisymm c k (below a b c k h g.is_one) (below a b k c g h.is_one)
@@ -103,24 +103,24 @@ shared_all w x z n enough s =
       | inr e ↦ linear (w ∷ sum_to n z ∷ sum_to n x ∷ []) ((lit (pos 0) ⟨≤⟩ (at 0 ⟨-⟩ at 1)) ∷ (at 1 ⟨=⟩ at 2) ∷ (at 0 ⟨≤⟩ at 2) ∷ []) (at 1 ⟨=⟩ at 0) (λ one z u v. omega (arith, ints)) (s.rest, (e, (enough, tt)))
     ]
 
-module _ (d : Side) (o : IsOrderedSide d) (x z : ℕ → ℚ) (c : IsCut d x z) (sign : AreNotNegative (sequences d) x) (empty : one_ℚ ≤ℚ x 0) (sets : (j : ℕ) → j < d.sets → x (d.before j) ≤ℚ sum_to (d.count j) (λ a. x (first d j + a))) where
-  pub cut_below : (q : ℕ) → q < sequences d → z q ≤ℚ x q
-  cut_below = each_sequence d (λ q. z q ≤ℚ x q) o (subst (λ v. v ≤ℚ x 0) (sym c.empty) empty) (λ j h up a l. (c.shares j a h l).left) d.sets (omega arith)
+module _ (d : Side) (o : IsOrderedSide d) (x z : ℕ → ℚ) (c : IsTrimmed d x z) (sign : AreNotNegative (sequences d) x) (empty : one_ℚ ≤ℚ x 0) (sets : (j : ℕ) → j < d.sets → x (d.before j) ≤ℚ sum_to (d.count j) (λ a. x (first d j + a))) where
+  pub trimmed_below : (q : ℕ) → q < sequences d → z q ≤ℚ x q
+  trimmed_below = each_sequence d (λ q. z q ≤ℚ x q) o (subst (λ v. v ≤ℚ x 0) (sym c.empty) empty) (λ j h up a l. (c.shares j a h l).left) d.sets (omega arith)
 
   set_shared : (j : ℕ) → j < d.sets → zero_ℚ ≤ℚ z (d.before j) → IsShared (z (d.before j)) (λ a. x (first d j + a)) (λ a. z (first d j + a)) (d.count j)
   set_shared j h up =
       let last : first d j + d.count j ≤ sequences d = first_up d.count j d.sets h in
       shared (z (d.before j)) (λ a. x (first d j + a)) (λ a. z (first d j + a)) (d.count j) up (λ a l. sign (first d j + a) (omega arith)) (λ a l. c.shares j a h l)
 
-  cut_sign : (q : ℕ) → q < sequences d → zero_ℚ ≤ℚ z q
-  cut_sign = each_sequence d (λ q. zero_ℚ ≤ℚ z q) o (subst (λ v. zero_ℚ ≤ℚ v) (sym c.empty) (linear [] [] (lit (pos 0) ⟨≤⟩ lit (pos 1)) (λ one z u v. omega (arith, ints)) tt)) (λ j h up a l. (set_shared j h up).sign a l) d.sets (omega arith)
+  trimmed_sign : (q : ℕ) → q < sequences d → zero_ℚ ≤ℚ z q
+  trimmed_sign = each_sequence d (λ q. zero_ℚ ≤ℚ z q) o (subst (λ v. zero_ℚ ≤ℚ v) (sym c.empty) (linear [] [] (lit (pos 0) ⟨≤⟩ lit (pos 1)) (λ one z u v. omega (arith, ints)) tt)) (λ j h up a l. (set_shared j h up).sign a l) d.sets (omega arith)
 
-  pub cut_plan : IsRealisationPlan d z
-  cut_plan =
+  pub trimmed_plan : IsRealisationPlan d z
+  trimmed_plan =
       record {
-        not_negative = cut_sign;
+        not_negative = trimmed_sign;
         empty_is_one = c.empty;
-        splits = λ j h. (let low : d.before j < sequences d = before_in j h in shared_all (z (d.before j)) (λ a. x (first d j + a)) (λ a. z (first d j + a)) (d.count j) (le_trans _ _ _ (cut_below (d.before j) low) (sets j h)) (set_shared j h (cut_sign (d.before j) low)));
+        splits = λ j h. (let low : d.before j < sequences d = before_in j h in shared_all (z (d.before j)) (λ a. x (first d j + a)) (λ a. z (first d j + a)) (d.count j) (le_trans _ _ _ (trimmed_below (d.before j) low) (sets j h)) (set_shared j h (trimmed_sign (d.before j) low)));
       }
     where
       before_in : (j : ℕ) → j < d.sets → d.before j < sequences d

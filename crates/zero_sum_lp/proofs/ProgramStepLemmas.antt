@@ -5,7 +5,7 @@ use Rattle.std.proofs.lemmas.Bool.{cases_eq}
 use Rattle.std.proofs.lemmas.List.{get_or-map, get_or_default, length-map, length-drop, length-take-le, get_or-take}
 use Rattle.std.proofs.lemmas.Grind.{get_or_after_one}
 use Rattle.rational.specs.Rational.{ℚ, ◌-ℚ◌, ◌*ℚ◌, zero_ℚ}
-use Rattle.frac128.specs.Steps.{MulFits, SubFits, unfit, Step, StepsGive}
+use Rattle.frac128.specs.Steps.{MulFits, SubFits, step_of, Step, StepsGive}
 use Rattle.frac128.specs.declared.steps.Op.TheVariants.{Sub, Mul}
 use Rattle.frac128.proofs.StepRunLemmas.{one-fits, subtracted-gives, following-gives}
 use Rattle.sequence_data.specs.declared.types.Cell.{Cell}
@@ -17,11 +17,11 @@ use Rattle.rational.specs.Tests.{eq_ℚ}
 
 -- ---- a gain
 pub difference_gives : (least : ℚ) (c : Cell) (part : ℚ) (r : Result ℚ Step) → part ≡ least *ℚ c.weight → MulFits least c.weight
-    → IfOk r (λ v. v ≡ c.one -ℚ part) → OnOk r (SubFits c.one part) → IfErr r (λ e. e ≡ unfit Sub c.one part) → OnErr r (SubFits c.one part → ⊥)
+    → IfOk r (λ v. v ≡ c.one -ℚ part) → OnOk r (SubFits c.one part) → IfErr r (λ e. e ≡ step_of Sub c.one part) → OnErr r (SubFits c.one part → ⊥)
     → StepsGive (gain_steps least c) (gain_at least c) r
 difference_gives least c part r is product value fits step refused =
-    following-gives (unfit Mul least c.weight ∷ []) (unfit Sub c.one (least *ℚ c.weight) ∷ []) (gain_at least c) r (one-fits (unfit Mul least c.weight) product)
-    (subst (λ p. StepsGive (unfit Sub c.one p ∷ []) (c.one -ℚ p) r) is (subtracted-gives c.one part r value fits step refused))
+    following-gives (step_of Mul least c.weight ∷ []) (step_of Sub c.one (least *ℚ c.weight) ∷ []) (gain_at least c) r (one-fits (step_of Mul least c.weight) product)
+    (subst (λ p. StepsGive (step_of Sub c.one p ∷ []) (c.one -ℚ p) r) is (subtracted-gives c.one part r value fits step refused))
 
 -- ---- the sums
 module _ (leaves : List Leaf) (sums : List ℚ) (are : sums ≡ map sum_at leaves) where

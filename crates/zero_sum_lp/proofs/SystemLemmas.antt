@@ -13,7 +13,7 @@ use Rattle.sequence_forms.specs.Sides.{Side, sequences}
 use Rattle.zero_sum_lp.specs.Programs.{columns_of, constraints, objective_cell, program_of}
 use Rattle.linear_systems.proofs.AgreementLemmas.{alike_distinct}
 use Rattle.zero_sum_lp.proofs.ProgramLemmas.{basic_is, basic_last, distinct}
-use Rattle.lex_tableau.specs.Starts.{parts_of, system_of, IsSystem}
+use Rattle.lex_tableau.specs.Starts.{linear_system, system_of, IsSystem}
 use Rattle.sequence_data.specs.Data.{SideData, side_of}
 use Rattle.lex_tableau.specs.Entries.{AreEntries, AreNumbered}
 use Rattle.lex_tableau.proofs.EntryLemmas.{cell_at, right_at}
@@ -66,7 +66,7 @@ module _ (first second : SideData) (gain : ℕ → ℕ → ℚ) (m n : ℕ) (bas
     | inr ne ↦ (let k : i < m = omega (arith, l, m_is, ne) in sym (slack i k ∙ sym (basic_is (side_of first) (side_of second) gain i (omega (arith, k, m_is)))))
   ]
 
-  system_program : Alike (program_of (side_of first) (side_of second) gain) (system_of (parts_of basics nonbasics cells m))
+  system_program : Alike (program_of (side_of first) (side_of second) gain) (system_of (linear_system basics nonbasics cells m))
   system_program =
       record {
         rows = ap suc (sym m_is) ∙ sym basics_length;
@@ -80,10 +80,10 @@ module _ (first second : SideData) (gain : ℕ → ℕ → ℚ) (m n : ℕ) (bas
       at_size : (i j : ℕ) → get_or cells (i * (n + 1) + j) zero_ℚ ≡ get_or cells (i * (length nonbasics + 1) + j) zero_ℚ
       at_size i j = ap (λ a. get_or cells (i * (a + 1) + j) zero_ℚ) (sym nonbasics_are.length_is)
 
-  pub system_valid : IsSystem (parts_of basics nonbasics cells m)
+  pub system_valid : IsSystem (linear_system basics nonbasics cells m)
   system_valid =
       record {
-        distinct = alike_distinct (program_of (side_of first) (side_of second) gain) (system_of (parts_of basics nonbasics cells m)) system_program (distinct (side_of first) (side_of second) gain);
+        distinct = alike_distinct (program_of (side_of first) (side_of second) gain) (system_of (linear_system basics nonbasics cells m)) system_program (distinct (side_of first) (side_of second) gain);
         shape = cells_are.count ∙ ap₂ (λ a b. a * (b + 1)) (add-one m ∙ sym basics_length) (sym nonbasics_are.length_is);
         rated = (let b = basics_length in omega (arith, b));
         basics_small = basics_small;
@@ -106,5 +106,5 @@ module _ (first second : SideData) (gain : ℕ → ℕ → ℚ) (m n : ℕ) (bas
         | inr l ↦ (let e = past_end nonbasics j (let b : length nonbasics ≡ n = nonbasics_are.length_is in omega (arith, b, l)) in omega (arith, e))
       ]
 
-  pub system_for : IsSystemFor first second gain (parts_of basics nonbasics cells m)
+  pub system_for : IsSystemFor first second gain (linear_system basics nonbasics cells m)
   system_for = record { valid = system_valid; program = system_program; rated = m_is }

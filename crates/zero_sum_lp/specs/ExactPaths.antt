@@ -1,6 +1,6 @@
 -- The path of a program over whole numbers, step by step, and the first step that does not fit.
-use Rattle.std.specs.Prelude.{ℕ, zero, suc, ◌+◌, ◌<◌, ◌≡◌, length, get_or}
-use Rattle.zero_sum_lp.specs.Paths.{LinearProgram, IsLinearProgram, IsEntering, IsOptimal}
+use Rattle.std.specs.Prelude.{ℕ, zero, suc, ◌+◌, ◌<◌, ◌≡◌, length, slice_index_or}
+use Rattle.zero_sum_lp.specs.Paths.{LinearProgram, IsFeasibleAndBounded, IsEntering, IsOptimal}
 use Rattle.lex_tableau.specs.declared.unfit_pivot.UnfitPivot.{UnfitPivot}
 use Rattle.lex_tableau.specs.Rows.{WholeTableau, tableau}
 use Rattle.lex_tableau.specs.Ratio.{IsLeavingRow}
@@ -15,11 +15,11 @@ linear_program n = record {
   start = tableau n;
 }
 
--- a tableau that is a start: its rated basic variables are those of the start, and it is a linear
--- program
+-- a tableau that is a start: its rated basic variables are those of the start, and its linear
+-- program is feasible and bounded
 pub record IsProgramStart (n : WholeTableau) : Type 0 where
-  pub basics : (i : ℕ) → i < n.rated → get_or n.starts i 0 ≡ get_or n.basics i 0
-  pub program : IsLinearProgram (linear_program n)
+  pub basics : (i : ℕ) → i < n.rated → slice_index_or n.starts i 0 ≡ slice_index_or n.basics i 0
+  pub program : IsFeasibleAndBounded (linear_program n)
 
 -- one step of the path: the entering column, its lexicographic row, and the pivot, all of whose
 -- steps of arithmetic fit

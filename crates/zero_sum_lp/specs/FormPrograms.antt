@@ -2,7 +2,7 @@
 use Rattle.std.specs.Prelude.{ℕ, ◌≡◌, ◌≢◌, List, [], ◌∷◌, ◌++◌, All, Ok, Err}
 use Rattle.answers.specs.Answers.{Answer, ◌>>=◌, ◌>>◌, only, IsSingle, refused_by}
 use Rattle.rational.specs.Rational.{ℚ, ◌+ℚ◌, ◌-ℚ◌, ◌*ℚ◌}
-use Rattle.frac128.specs.Steps.{unfit, Step}
+use Rattle.frac128.specs.Steps.{step_of, Step}
 use Rattle.frac128.specs.declared.steps.Op.TheVariants.{Add, Sub, Mul}
 use Rattle.lex_tableau.specs.Rows.{WholeTableau}
 use Rattle.lex_tableau.specs.Starts.{LinearSystem}
@@ -28,11 +28,13 @@ abbrev pub size_of : FormData → ℕ
 size_of f = program_size (side_of f.first) (side_of f.second)
 
 -- ---- the sums of both players' payoffs
+-- the sum of both players' payoffs at a leaf
 abbrev pub sum_at : Leaf → ℚ
 sum_at l = l.one +ℚ l.two
 
+-- its step
 abbrev pub sum_steps : Leaf → List Step
-sum_steps l = unfit Add l.one l.two ∷ []
+sum_steps l = step_of Add l.one l.two ∷ []
 
 -- the sums of all leaves fit; or the first that does not, with its place
 abbrev pub sums_in : List Leaf → Answer LpStop (Unit {0})
@@ -68,8 +70,9 @@ is_constant leaves (Err stop) = AreFirstApart leaves stop
 abbrev pub gain_at : ℚ → Cell → ℚ
 gain_at least c = c.one -ℚ (least *ℚ c.weight)
 
+-- its steps
 abbrev pub gain_steps : ℚ → Cell → List Step
-gain_steps least c = unfit Mul least c.weight ∷ unfit Sub c.one (least *ℚ c.weight) ∷ []
+gain_steps least c = step_of Mul least c.weight ∷ step_of Sub c.one (least *ℚ c.weight) ∷ []
 
 -- the gains of all cells fit; or the first step that does not, with its row and column
 abbrev pub gains_in : ℚ → List Cell → Answer LpStop (Unit {0})

@@ -1,5 +1,5 @@
 -- What contracts see of a program and of its optimum.
-use Rattle.std.specs.Prelude.{ℕ, ◌+◌, ◌<◌, ◌≤◌, ◌≡◌, get_or}
+use Rattle.std.specs.Prelude.{ℕ, ◌+◌, ◌<◌, ◌≤◌, ◌≡◌, slice_index_or}
 use Rattle.rational.specs.Rational.{ℚ}
 use Rattle.game_core.specs.Limits.{most_rows}
 use Rattle.sequence_forms.specs.Sides.{Side}
@@ -15,17 +15,19 @@ pub record Program : Type 0 where
   pub tableau : WholeTableau
 
 -- ---- what stands in the tableau
--- the prices of both players
+-- the prices of the first player
 abbrev pub first_prices : Program → ℕ → ℚ
 first_prices o = price_one (side_of o.first) (side_of o.second) (tableau o.tableau)
 
+-- the prices of the second player
 abbrev pub second_prices : Program → ℕ → ℚ
 second_prices o = price_two (side_of o.first) (side_of o.second) (tableau o.tableau)
 
--- their raw weights
+-- the raw weights of the first player
 abbrev pub first_raw : Program → ℕ → ℚ
 first_raw o = raw_one (side_of o.first) (side_of o.second) (tableau o.tableau)
 
+-- the raw weights of the second player
 abbrev pub second_raw : Program → ℕ → ℚ
 second_raw o = raw_two (side_of o.first) (side_of o.second) (tableau o.tableau)
 
@@ -37,7 +39,7 @@ program_size rows columns = constraints rows columns + columns_of rows columns
 -- a tableau is the start of the program of these sides, for some gains
 pub record IsStartFor (first second : SideData) (n : WholeTableau) : Type 0 where
   pub gain : ℕ → ℕ → ℚ
-  pub basics : (i : ℕ) → i < n.rated → get_or n.starts i 0 ≡ get_or n.basics i 0
+  pub basics : (i : ℕ) → i < n.rated → slice_index_or n.starts i 0 ≡ slice_index_or n.basics i 0
   pub program : IsProgramOf (side_of first) (side_of second) gain (linear_program n)
   pub valid : IsTableau n
 

@@ -13,8 +13,8 @@ pub record LinearProgram : Type 0 where
   pub rated : ℕ
   pub start : Tableau
 
--- a direction that solves the rows with right sides 0, in which no constraint's variable falls and
--- the objective's grows
+-- a direction that solves the rows with right sides 0, in which no variable falls but those of the
+-- rows from m on, and the objective's grows
 pub record IsUnbounded (m : ℕ) (s : Tableau) : Type 0 where
   pub along : ℕ → ℚ
   pub holds : (i : ℕ) → i < s.rows → left s along i ≡ zero_ℚ
@@ -23,7 +23,7 @@ pub record IsUnbounded (m : ℕ) (s : Tableau) : Type 0 where
   pub up : zero_ℚ <ℚ along (s.basic m)
 
 -- a linear program whose start is feasible and whose objective is bounded
-pub record IsLinearProgram (g : LinearProgram) : Type 0 where
+pub record IsFeasibleAndBounded (g : LinearProgram) : Type 0 where
   pub begins : IsStart g.bound g.rated g.start
   pub objective : g.rated < g.start.rows
   pub feasible : (i : ℕ) → i < g.rated → zero_ℚ ≤ℚ g.start.right i

@@ -10,7 +10,7 @@ use Rattle.zero_sum_lp.specs.PlanSteps.{rest_steps}
 abbrev pub weights_from : List ℚ → ℕ → ℕ → ℚ
 weights_from weights first a = entry_at weights (first + a)
 
--- n actions in order each got the less of their raw weight x and what the ones before left of w
+-- n actions in order each got the lesser of their raw weight x and what the ones before left of w
 abbrev pub AreShares : ℚ → (ℕ → ℚ) → (ℕ → ℚ) → ℕ → Type 0
 AreShares w x z n = (a : ℕ) → a < n → IsLesser (x a) (w -ℚ sum_to a z) (z a)
 

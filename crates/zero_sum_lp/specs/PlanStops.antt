@@ -11,8 +11,8 @@ use Rattle.zero_sum_lp.specs.declared.stop.PlanStop.{PlanStop}
 use Rattle.zero_sum_lp.specs.declared.stop.PlanStop.TheVariants.{Range}
 use Rattle.zero_sum_lp.specs.Parts.{Program, first_raw, second_raw}
 use Rattle.zero_sum_lp.specs.PlanPairs.{PlanPair}
-use Rattle.zero_sum_lp.specs.Plans.{IsRaised, IsCut}
-use Rattle.zero_sum_lp.specs.PlanSteps.{raising_steps, cutting_steps}
+use Rattle.zero_sum_lp.specs.Plans.{IsRaised, IsTrimmed}
+use Rattle.zero_sum_lp.specs.PlanSteps.{raising_steps, trimming_steps}
 
 -- the plan with this property, all of whose steps fit; or the first step that does not
 abbrev pub plan_in : (List ℚ → Type 0) → (List ℚ → List Step) → Answer Step (List ℚ)
@@ -29,20 +29,20 @@ IsRaisedPlan d raw plan = (length plan ≡ sequences d) × IsRaised d raw (entry
 abbrev pub raised_in : Side → (ℕ → ℚ) → Answer Step (List ℚ)
 raised_in d raw = plan_in (IsRaisedPlan d raw) (λ plan. raising_steps d raw (entry_at plan))
 
--- a weight for each sequence, made of raw weights by cutting
-abbrev pub IsCutPlan : Side → (ℕ → ℚ) → List ℚ → Type 0
-IsCutPlan d raw plan = (length plan ≡ sequences d) × IsCut d raw (entry_at plan)
+-- a weight for each sequence, made of raw weights by trimming
+abbrev pub IsTrimmedPlan : Side → (ℕ → ℚ) → List ℚ → Type 0
+IsTrimmedPlan d raw plan = (length plan ≡ sequences d) × IsTrimmed d raw (entry_at plan)
 
--- the cut plan, or the first step that does not fit
-abbrev pub cut_in : Side → (ℕ → ℚ) → Answer Step (List ℚ)
-cut_in d raw = plan_in (IsCutPlan d raw) (λ plan. cutting_steps d (entry_at plan))
+-- the trimmed plan, or the first step that does not fit
+abbrev pub trimmed_in : Side → (ℕ → ℚ) → Answer Step (List ℚ)
+trimmed_in d raw = plan_in (IsTrimmedPlan d raw) (λ plan. trimming_steps d (entry_at plan))
 
--- The plans of an optimum, the first player's raised and the second's cut; or the player, 0 or 1,
--- with the first step that does not fit.
+-- The plans of an optimum, the first player's raised and the second's trimmed; or the player, 0 or
+-- 1, with the first step that does not fit.
 abbrev pub plans_of : Program → Answer PlanStop PlanPair
 plans_of o = do
   first ← refused_by (Range 0) (raised_in (side_of o.first) (first_raw o))
-  second ← refused_by (Range 1) (cut_in (side_of o.second) (second_raw o))
+  second ← refused_by (Range 1) (trimmed_in (side_of o.second) (second_raw o))
   only (record { one = first; two = second })
 
 -- There is one pair of plans, or one first step that does not fit.

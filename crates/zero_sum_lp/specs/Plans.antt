@@ -15,9 +15,9 @@ pub record IsRaised (d : Side) (x z : ℕ → ℚ) : Type 0 where
   pub others : (j a : ℕ) → j < d.sets → 0 < a → a < d.count j
       → z (first d j + a) ≡ x (first d j + a)
 
--- z is the plan made of x where x is too much: at each set, each action in order gets the less of
+-- z is the plan made of x where x is too much: at each set, each action in order gets the lesser of
 -- its raw weight and what the actions before it have left of the weight before the set
-pub record IsCut (d : Side) (x z : ℕ → ℚ) : Type 0 where
+pub record IsTrimmed (d : Side) (x z : ℕ → ℚ) : Type 0 where
   pub empty : z 0 ≡ one_ℚ
   pub shares : (j a : ℕ) → j < d.sets → a < d.count j
       → IsLesser (x (first d j + a)) (z (d.before j) -ℚ sum_to a (λ b. z (first d j + b)))

@@ -9,14 +9,16 @@ use Rattle.sequence_data.specs.Data.{SideData, side_of}
 use Rattle.sequence_data.specs.Matrices.{number_at}
 use Rattle.sequence_forms.specs.Sides.{sequences}
 
+-- gains listed row by row, with an entry for each sequence of the second player in each
 abbrev pub listed_gain : SideData → List ℚ → ℕ → ℕ → ℚ
 listed_gain second gains = number_at gains (sequences (side_of second))
 
--- their program, and its rows of the second player's sequences
+-- the program of two sides with listed gains
 abbrev pub listed_program : SideData → SideData → List ℚ → Tableau
 listed_program first second gains =
     program_of (side_of first) (side_of second) (number_at gains (sequences (side_of second)))
 
+-- its rows of the second player's sequences
 abbrev pub listed_reply : SideData → SideData → List ℚ → ℕ → ℕ → ℚ
 listed_reply first second gains =
     reply_cell (side_of first) (side_of second) (number_at gains (sequences (side_of second)))

@@ -13,9 +13,8 @@
 #![tactic(auto)]
 
 ghost use Rattle.zero_sum_lp.specs.PathLaws.{TheObjectiveRowGrows, PathsEnd, PathsGoOn, PathsAreDetermined};
-ghost use Rattle.zero_sum_lp.specs.ProgramLaws.{ProgramsAreLinear, OptimaProveTheValue};
+ghost use Rattle.zero_sum_lp.specs.ProgramLaws.{ProgramsAreFeasibleAndBounded, OptimaProveTheValue};
 
-mod cutting;
 mod form_program;
 mod gains;
 mod laws;
@@ -26,6 +25,7 @@ mod raising;
 mod stop;
 mod sums;
 mod system;
+mod trimming;
 mod weights;
 
 pub use form_program::program;
@@ -59,8 +59,8 @@ pub fn paths_are_determined()
 
 /// The program of two players' plans is a linear program with a feasible start and a bounded
 /// objective.
-pub fn programs_are_linear()
-    ensures { ProgramsAreLinear }
+pub fn programs_are_feasible_and_bounded()
+    ensures { ProgramsAreFeasibleAndBounded }
 {}
 
 /// The optimum's prices prove the value of the plans made of its raw weights.

@@ -6,14 +6,14 @@ ghost use Rattle.answers.specs.Answers.{Gives, map_ok};
 ghost use Rattle.zero_sum_lp.specs.declared.stop.PlanStop.TheVariants as plan_stops;
 ghost use Rattle.rational.specs.Sum.{entry_at};
 ghost use Rattle.zero_sum_lp.specs.PlanLists.{AreWeights};
-ghost use Rattle.zero_sum_lp.specs.PlanStops.{cut_in, plans_of, raised_in};
+ghost use Rattle.zero_sum_lp.specs.PlanStops.{plans_of, raised_in, trimmed_in};
 ghost use Rattle.linear_systems.specs.Rows.{coefficient};
 ghost use Rattle.lex_tableau.specs.Rows.{tableau};
 ghost use Rattle.zero_sum_lp.specs.Parts.{HasShape, IsOptimum, first_prices, first_raw, second_prices, second_raw};
 
-use crate::cutting::cut;
 use crate::raising::raise;
 use crate::stop::PlanStop;
+use crate::trimming::trim;
 use frac128::{Frac, Memory, Unfit};
 use lex_tableau::{Tableau, Work};
 use sequence_data::Side;
@@ -88,15 +88,15 @@ fn raised(weights: Vec<Frac>, side: &Side) -> Result<Vec<Frac>, Unfit>
     Ok(weights)
 }
 
-// The raw weights, cut.
+// The raw weights, trimmed.
 fn lessened(weights: Vec<Frac>, side: &Side) -> Result<Vec<Frac>, Unfit>
     requires side { IsSideData side.now }
     requires shape { length weights.items ≡ sequences (side_of side.now) }
-    ensures { cut_in (side_of side.now) (entry_at weights.items)
+    ensures { trimmed_in (side_of side.now) (entry_at weights.items)
         (map_ok result (λ plan. plan.items)) }
 {
     let mut weights = weights;
-    cut(weights.as_mut_slice(), side)?;
+    trim(weights.as_mut_slice(), side)?;
     Ok(weights)
 }
 

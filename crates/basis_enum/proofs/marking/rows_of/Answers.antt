@@ -1,6 +1,13 @@
 use Rattle.std.proofs.Common.{◌<◌, ◌≤◌, ◌≡◌, ap, get_or, length, refl, subst, arith}
-use Rattle.basis_enum.proofs.BasicValueLemmas.{rows_more, rows_start}
+use Rattle.basis_enum.proofs.BasicValueLemmas.{rows_all, rows_more, rows_start}
 use Rattle.basis_enum.proofs.marking.rows_of.Goals as goal
+
+pub returns : goal.returns
+returns c =
+    let t = c.args.tableau.now in
+    let items = c.basics-variable-items.ensures in
+    let end : c.loop-row.row ≡ length t.basics = omega (arith, ap length items) in
+    rows_all t c.loop-row.row c.loop-row.rows end c.loop-row.invariant
 
 pub loop-row-init : goal.loop-row-init
 loop-row-init c = rows_start c.args.tableau.now _ refl

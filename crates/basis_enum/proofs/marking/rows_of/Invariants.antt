@@ -1,4 +1,4 @@
-use Rattle.basis_enum.specs.Marks.{AreRowsTo}
+use Rattle.basis_enum.proofs.BasicValueLemmas.{AreRowsTo}
 use Rattle.basis_enum.proofs.marking.rows_of.Given as goal
 
 abbrev pub invariant-loop-row : goal.invariant-loop-row

@@ -11,7 +11,7 @@ within : (c : After-action_count) → slice_index_or c.args.starts.now c.args.se
 within c =
     let set = c.requires.set in
     subst (λ n. slice_index_or c.args.starts.now c.args.set 0 + n ≤ length c.deref.result.now) (sym c.action_count.ensures)
-    (starts-within (game_of_tree c.args.tree.now) c.args.starts.now c.deref.result.now c.requires.entries.0 c.requires.starts (c.deref.ensures.value ∙ c.self.view_is ∙ c.requires.entries.1) c.args.set set.0 c.stands_for_game_tree.ensures.game set.1 set.2)
+    (starts-within (game_of_tree c.args.tree.now) c.args.starts.now c.deref.result.now c.requires.entries.0 c.stands_for_game_tree.ensures.game c.requires.starts (c.deref.ensures.value ∙ c.self.view_is ∙ c.requires.entries.1) c.args.set set.0 set.1 set.2)
 
 pub overflow_add-result : goal.overflow_add-result
 overflow_add-result c = omega (arith, within (goal.at.overflow_add-result c).After-action_count, c.deref.ensures.len)
@@ -27,5 +27,5 @@ returns c = λ b is.
     let t = game_of_tree c.args.tree.now in
     let set = c.requires.set in
     listed-part c.action_count.result (slice_index_or c.args.starts.now c.args.set 0) c.deref.result.now (b c.args.set) (within (goal.at.returns c).After-action_count)
-    (λ k l. starts-read t c.args.starts.now c.deref.result.now b c.requires.starts (c.deref.ensures.value ∙ c.self.view_is ∙ is) c.args.set set.0 k set.1 set.2 (omega (arith, l, c.action_count.ensures)))
+    (λ k l. starts-read t c.args.starts.now c.deref.result.now b c.stands_for_game_tree.ensures.game c.requires.starts (c.deref.ensures.value ∙ c.self.view_is ∙ is) c.args.set set.0 k set.1 set.2 (omega (arith, l, c.action_count.ensures)))
     ∙ ap (λ n. listed n (b c.args.set)) c.action_count.ensures

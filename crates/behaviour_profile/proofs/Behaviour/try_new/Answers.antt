@@ -2,7 +2,8 @@ use Rattle.std.proofs.Common.{◌≡◌, Err, length, rules, subst}
 use Rattle.std.specs.Prelude.{sum}
 use Rattle.std.proofs.lemmas.Result.{err_from_is_err_and}
 use Rattle.game_core.specs.TreeGame.{game_of_tree}
-use Rattle.behaviour_profile.specs.EntryTests.{action_counts, tests_from}
+use Rattle.game_theory.specs.OwnSets.{action_counts}
+use Rattle.behaviour_profile.specs.EntryTests.{tests_from}
 use Rattle.behaviour_profile.proofs.FirstFaultLemmas.{tests_in}
 use Rattle.behaviour_profile.proofs.ProfileAnswerLemmas.{tests_refused}
 use Rattle.behaviour_profile.proofs.Behaviour.try_new.Goals as goal

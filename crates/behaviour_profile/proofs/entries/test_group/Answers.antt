@@ -5,7 +5,7 @@ use Rattle.std.proofs.lemmas.Result.{err_from_is_err_and}
 use Rattle.rational.specs.Rational.{◌≤ℚ◌, zero_ℚ}
 use Rattle.rational.proofs.PartLemmas.{nonneg-num, sign_nonneg}
 use Rattle.sequence_data.proofs.PlaceLemmas.{get_or-inside}
-use Rattle.behaviour_profile.specs.EntryTests.{Passes}
+use Rattle.behaviour_profile.specs.EntryTests.{TestHolds}
 use Rattle.rational.specs.Sum.{entry_at}
 use Rattle.behaviour_profile.proofs.GroupTestLemmas.{tests_below, sum_below, negative_by_sign, negative_here, unfit_here, passed-next, sum-next, group-passed, sum_here}
 use Rattle.behaviour_profile.proofs.entries.test_group.Goals as goal
@@ -41,10 +41,10 @@ pub returns-then-eq : goal.returns-then-eq
 returns-then-eq c =
     let end : c.loop-k.k ≡ c.args.count = omega arith in
     group-passed c.args.entries.now c.args.place c.args.group c.args.count c.loop-k.sum (c.loop-k.invariant.so_far ∙ ap (sum_below c.args.entries.now c.args.place) end)
-    (subst (λ n. All Passes (tests_below c.args.entries.now c.args.place n)) end c.loop-k.invariant.passed) (c.eq.ensures.same.0 c.if-eq.true ∙ c.one.ensures)
+    (subst (λ n. All TestHolds (tests_below c.args.entries.now c.args.place n)) end c.loop-k.invariant.passed) (c.eq.ensures.same.0 c.if-eq.true ∙ c.one.ensures)
 
 pub returns-else-eq : goal.returns-else-eq
 returns-else-eq c =
     let end : c.loop-k.k ≡ c.args.count = omega arith in
     sum_here c.args.entries.now c.args.place c.args.group c.args.count c.loop-k.sum (c.loop-k.invariant.so_far ∙ ap (sum_below c.args.entries.now c.args.place) end)
-    (subst (λ n. All Passes (tests_below c.args.entries.now c.args.place n)) end c.loop-k.invariant.passed) (λ e. false≢true (sym c.if-eq.false ∙ c.eq.ensures.same.1 (e ∙ sym c.one.ensures)))
+    (subst (λ n. All TestHolds (tests_below c.args.entries.now c.args.place n)) end c.loop-k.invariant.passed) (λ e. false≢true (sym c.if-eq.false ∙ c.eq.ensures.same.1 (e ∙ sym c.one.ensures)))

@@ -4,7 +4,7 @@ use Rattle.std.proofs.lemmas.List.{length-take-le}
 use Rattle.std.proofs.lemmas.Result.{err_from_is_err_and}
 use Rattle.game_core.specs.Tree.{InformationSet}
 use Rattle.game_core.specs.TreeGame.{game_of_tree}
-use Rattle.behaviour_profile.specs.EntryTests.{Passes, tests_from}
+use Rattle.behaviour_profile.specs.EntryTests.{TestHolds, tests_from}
 use Rattle.game_theory.specs.OwnSets.{own_counts}
 use Rattle.behaviour_profile.proofs.GroupListLemmas.{sum-next, end-within, number-within, next_passes, next_fault}
 use Rattle.behaviour_profile.proofs.TreeGroupLemmas.{none-left, set-below, count-at, count-is, count-few}
@@ -85,4 +85,4 @@ returns-clause-group c =
 
 pub returns-clause-tests : goal.returns-clause-tests
 returns-clause-tests c =
-    subst (λ v. All Passes (tests_from c.args.entries.now c.args.place c.args.group v)) (all (goal.at.returns-clause-tests c).In_default) c.loop-set.invariant.passed
+    subst (λ v. All TestHolds (tests_from c.args.entries.now c.args.place c.args.group v)) (all (goal.at.returns-clause-tests c).In_default) c.loop-set.invariant.passed

@@ -1,7 +1,7 @@
 use Rattle.std.proofs.Common.{◌≡◌, ◌+◌, ◌-◌, ◌≤◌, All, length, take}
 use Rattle.std.specs.Prelude.{sum}
 use Rattle.game_core.specs.TreeGame.{game_of_tree}
-use Rattle.behaviour_profile.specs.EntryTests.{Passes, tests_from}
+use Rattle.behaviour_profile.specs.EntryTests.{TestHolds, tests_from}
 use Rattle.game_theory.specs.OwnSets.{own_counts}
 use Rattle.behaviour_profile.proofs.entries.test_player.Given as goal
 
@@ -11,7 +11,7 @@ invariant-loop-set l =
     record {
       within : l.number ≤ length own;
       place : l.here ≡ l.place + sum (take l.number own);
-      passed : All Passes (tests_from l.entries l.place l.group (take l.number own));
+      passed : All TestHolds (tests_from l.entries l.place l.group (take l.number own));
     }
 
 abbrev pub decreases-loop-set : goal.decreases-loop-set

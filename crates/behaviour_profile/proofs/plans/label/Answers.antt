@@ -2,9 +2,8 @@ use Rattle.std.proofs.Common.{◌<◌, ◌≡◌, ◌∙◌, Some, List, sym, ap
 use Rattle.std.proofs.lemmas.List.{get_or-map}
 use Rattle.std.proofs.lemmas.Option.{get_or_from_slice_get}
 use Rattle.game_theory.specs.OwnSets.{own_sets}
-use Rattle.game_core.specs.Tree.{InformationSet}
+use Rattle.game_core.specs.Tree.{InformationSet, label_of}
 use Rattle.game_core.specs.TreeGame.{game_of_tree}
-use Rattle.behaviour_profile.specs.Plans.{label_of}
 use Rattle.behaviour_profile.proofs.BehaviourEntryLemmas.{own_set-below, place-found}
 use Rattle.behaviour_profile.proofs.plans.label.Goals as goal
 

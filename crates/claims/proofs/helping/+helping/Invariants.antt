@@ -1,6 +1,6 @@
 use Rattle.std.proofs.Common.{◌≡◌, ◌+◌, ◌*◌, ◌-◌, length}
 use Rattle.claims.specs.ClaimWord.{KnowsWhole, pass_state}
-use Rattle.claims.specs.Pieces.{AreOf}
+use Rattle.claims.specs.Pieces.{ArePiecesOf}
 use Rattle.claims.proofs.helping.+helping.Given as goal
 
 abbrev pub invariant-helped-loop : goal.invariant-helped-loop
@@ -8,7 +8,7 @@ invariant-helped-loop g l = record {
   same : l.pass ≡ pass_state l.job.work.claims.now l.initial.pass.parts l.pass.claimed;
   claimed : length l.pass.claimed ≡ length l.initial.pass.claimed + 16 * l.counter;
   whole : KnowsWhole l.pass.parts l.pass.claimed;
-  are_of : AreOf g.F.Fn l.job.work.f.now l.job.work.count l.pass.claimed l.pieces.items;
+  are_of : ArePiecesOf g.F.Fn l.job.work.f.now l.job.work.count l.pass.claimed l.pieces.items;
 }
 
 abbrev pub decreases-helped : goal.decreases-helped

@@ -5,7 +5,7 @@ use Rattle.game_core.specs.Limits.{most_text}
 use Rattle.convert_tables.specs.declared.stops.LayoutStop.TheVariants as layout_stops
 use Rattle.game_theory.specs.Profiles.{IsProfile, profile_count, profile_at}
 use Rattle.game_theory.proofs.ProfileNumberLemmas.{IsProfile-profile_at}
-use Rattle.convert_tables.specs.Layouts.{choice_at, others_counts, table_text}
+use Rattle.convert_tables.specs.Layouts.{others_choice, others_counts, table_text}
 use Rattle.convert_tables.specs.declared.cells.Axes.{Axes}
 use Rattle.convert_tables.proofs.CellPlaceLemmas.{AreFewCounts, AreFewCounts-others}
 use Rattle.convert_tables.proofs.NumberedTextLemmas.{each-next, each-long}
@@ -28,13 +28,13 @@ set_profile-requires-clause-some c = (few c.args.axes.now c.args.counts.now c.re
 
 -- the table in which the others play the choice with a number
 table_at : Axes → ℕ → List ℕ
-table_at l k = table_text l.style l.table.now l.row l.column (choice_at l.table.now l.row l.column k)
+table_at l k = table_text l.style l.table.now l.row l.column (others_choice l.table.now l.row l.column k)
 
 pub push_table-requires : goal.push_table-requires
 push_table-requires c =
     let l = c.args.axes.now in
     let counts = others_counts l.table.now l.row l.column in
-    let written : c.set_profile.new.profile ≡ choice_at l.table.now l.row l.column c.loop-number.number = c.set_profile.ensures ∙ ap (λ ns. profile_at ns c.loop-number.number) c.requires.counts in
+    let written : c.set_profile.new.profile ≡ others_choice l.table.now l.row l.column c.loop-number.number = c.set_profile.ensures ∙ ap (λ ns. profile_at ns c.loop-number.number) c.requires.counts in
     let below : c.loop-number.number < profile_count counts = subst (λ v. c.loop-number.number < v) (c.profile_count-number-end.ensures ∙ ap profile_count c.requires.counts) c.loop-number-test.true in
     record { choice = subst (IsProfile counts) (sym written) (IsProfile-profile_at counts c.loop-number.number below) }
 
@@ -45,7 +45,7 @@ returns-in_err-push_table-clause-long c =
     let counts = others_counts l.table.now l.row l.column in
     let k = c.loop-number.number in
     let loop = c.loop-number.text.items in
-    let written : c.set_profile.new.profile ≡ choice_at l.table.now l.row l.column k = c.set_profile.ensures ∙ ap (λ ns. profile_at ns k) c.requires.counts in
+    let written : c.set_profile.new.profile ≡ others_choice l.table.now l.row l.column k = c.set_profile.ensures ∙ ap (λ ns. profile_at ns k) c.requires.counts in
     let n = profile_count counts in
     let below : k + 1 ≤ n = omega (arith, c.profile_count-number-end.ensures ∙ ap profile_count c.requires.counts) in
     let inner : IsErrOf c.from_residual.result layout_stops.TooLong → most_text < length (loop ++ table_text l.style l.table.now l.row l.column c.set_profile.new.profile) = search rules in
@@ -57,7 +57,7 @@ loop-number-preserved c =
     let l = c.args.axes.now in
     let k = c.loop-number.number in
     let loop = c.loop-number.text.items in
-    let written : c.set_profile.new.profile ≡ choice_at l.table.now l.row l.column k = c.set_profile.ensures ∙ ap (λ ns. profile_at ns k) c.requires.counts in
+    let written : c.set_profile.new.profile ≡ others_choice l.table.now l.row l.column k = c.set_profile.ensures ∙ ap (λ ns. profile_at ns k) c.requires.counts in
     each-next (table_at l) c.args.text.now.items loop c.push_table.new.text.items k c.loop-number.invariant (c.in_ok-push_table.ensures.table ∙ ap (λ v. loop ++ table_text l.style l.table.now l.row l.column v) written)
 
 pub returns-clause-tables : goal.returns-clause-tables

@@ -1,5 +1,5 @@
 use Rattle.std.proofs.Common.{◌+◌, ◌<◌, length, get_or, sym, ◌∙◌, subst, arith}
-use Rattle.enumpure.specs.Replies.{IsBest, KeepsBestInLine, column_pays}
+use Rattle.enumpure.specs.Replies.{IsGreatestInLine, KeepsBestInLine, column_pays}
 use Rattle.enumpure.proofs.ColumnLemmas.{KeepsBestReplies-column, are_apart, column_game, line-below, played_strategy, some_strategy}
 use Rattle.enumpure.proofs.KeptReplyLemmas.{KeepsBestBelow, KeepsBestBelow-none, KeepsBestBelow-skip, KeepsBestBelow-step, KeepsBestReplies-all}
 use Rattle.enumpure.proofs.replies.keep_best_replies.Goals as goal
@@ -46,7 +46,7 @@ loop-first-preserved c g i h =
     let some : 0 < get_or g.strategies i 0 = omega (arith, some_strategy g i c.args.column (length old) c.args.stride c.args.strategies h k number, h.strategies_is) in
     let played = played_strategy g i c.args.column (length old) c.args.stride c.args.strategies h k in
     elim c.if-first-stride-eq0.branch [
-      | then-first-stride-eq0 w ↦ subst (λ v. KeepsBestBelow game i old v (k + 1)) (sym w.all_best-is) (KeepsBestBelow-step game i old mid w.keep_best.new.all_best k w.best_payoff-best.result (omega (arith, number, h.of_each)) h.player some (played ∙ w.if-first-stride-eq0.true) (subst (λ d. IsBest (column_pays c.args.column) k d (get_or g.strategies i 0) w.best_payoff-best.result) h.apart_is (subst (λ n. IsBest (column_pays c.args.column) k c.args.stride n w.best_payoff-best.result) h.strategies_is w.best_payoff-best.ensures)) (subst (λ d. KeepsBestInLine (column_pays c.args.column) k d (get_or g.strategies i 0) w.best_payoff-best.result mid w.keep_best.new.all_best) h.apart_is (subst (λ n. KeepsBestInLine (column_pays c.args.column) k c.args.stride n w.best_payoff-best.result mid w.keep_best.new.all_best) h.strategies_is w.keep_best.ensures.in_line)) (c.loop-first.invariant g i h))
+      | then-first-stride-eq0 w ↦ subst (λ v. KeepsBestBelow game i old v (k + 1)) (sym w.all_best-is) (KeepsBestBelow-step game i old mid w.keep_best.new.all_best k w.best_payoff-best.result (omega (arith, number, h.of_each)) h.player some (played ∙ w.if-first-stride-eq0.true) (subst (λ d. IsGreatestInLine (column_pays c.args.column) k d (get_or g.strategies i 0) w.best_payoff-best.result) h.apart_is (subst (λ n. IsGreatestInLine (column_pays c.args.column) k c.args.stride n w.best_payoff-best.result) h.strategies_is w.best_payoff-best.ensures)) (subst (λ d. KeepsBestInLine (column_pays c.args.column) k d (get_or g.strategies i 0) w.best_payoff-best.result mid w.keep_best.new.all_best) h.apart_is (subst (λ n. KeepsBestInLine (column_pays c.args.column) k c.args.stride n w.best_payoff-best.result mid w.keep_best.new.all_best) h.strategies_is w.keep_best.ensures.in_line)) (c.loop-first.invariant g i h))
       | else-first-stride-eq0 w ↦ subst (λ v. KeepsBestBelow game i old v (k + 1)) (sym w.all_best-is) (KeepsBestBelow-skip game i old mid k h.player some (λ z. w.if-first-stride-eq0.false (sym played ∙ z)) (c.loop-first.invariant g i h))
     ]
 

@@ -2,10 +2,10 @@ use Rattle.std.proofs.Common.{ℕ, ◌+◌, ◌<◌, ◌≡◌, ◌++◌, List, 
 use Rattle.std.proofs.lemmas.List.{length-map, length_push, map-append}
 use Rattle.game_core.specs.Table.{IsTable}
 use Rattle.game_core.specs.TreeGame.{game_of_tree}
-use Rattle.enumpure_trees.specs.StrategyOrders.{AreTold, IsSortedOrder}
+use Rattle.enumpure_trees.specs.StrategyOrders.{AreToldApart, IsSortedOrder}
 use Rattle.enumpure_trees.proofs.FormSizeLemmas.{few_strategies}
 use Rattle.enumpure_trees.proofs.SortedOrderLemmas.{sorted-push, seen-at}
-use Rattle.enumpure_trees.proofs.CompletedListLemmas.{AreTold-strategies}
+use Rattle.enumpure_trees.proofs.CompletedListLemmas.{AreToldApart-strategies}
 use Rattle.enumpure_trees.proofs.orders.orders_of_all.Goals as goal
 use Rattle.enumpure_trees.proofs.orders.orders_of_all.Goals.{After-deref}
 
@@ -26,7 +26,7 @@ order_of-requires-clause-few c =
 pub order_of-requires-clause-told : goal.order_of-requires-clause-told
 order_of-requires-clause-told c =
     let valid = c.trees_are_game_trees.ensures c.args.tree.now c.players.ensures.valid in
-    subst AreTold (sym (strategies-seen c)) (AreTold-strategies (game_of_tree c.args.tree.now) c.args.reduced.now.choices c.loop-player.player valid c.requires.form.are_strategies (inside c))
+    subst AreToldApart (sym (strategies-seen c)) (AreToldApart-strategies (game_of_tree c.args.tree.now) c.args.reduced.now.choices c.loop-player.player valid c.requires.form.are_strategies (inside c))
 
 pub loop-player-preserved : goal.loop-player-preserved
 loop-player-preserved c =

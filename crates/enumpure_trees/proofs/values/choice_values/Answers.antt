@@ -7,15 +7,16 @@ use Rattle.frac128.specs.FirstUnfit.{StepsFit}
 use Rattle.game_core.specs.Table.{most_payoffs}
 use Rattle.game_core.specs.TreeGame.{game_of_tree}
 use Rattle.game_theory.specs.Profiles.{profile_at}
-use Rattle.pure_payoffs.specs.Stops.{all_values_in, node_values}
-use Rattle.enumpure_trees.specs.Choices.{action_counts, numbered_choice, whole_choices}
-use Rattle.enumpure_trees.specs.StableStops.{values_in}
+use Rattle.pure_payoffs.specs.Stops.{all_values_fit, node_values}
+use Rattle.enumpure_trees.specs.Choices.{numbered_choice, whole_choices}
+use Rattle.enumpure_trees.specs.PassingStops.{values_in}
 use Rattle.enumpure_trees.specs.Told.{at_choice}
 use Rattle.enumpure_trees.specs.Values.{value_at, value_count, value_steps}
 use Rattle.enumpure_trees.specs.declared.stop.ChoiceStop.{ChoiceStop}
 use Rattle.enumpure_trees.specs.declared.stop.ChoiceStop.TheVariants as stops
 use Rattle.enumpure_trees.proofs.ChoiceNumberLemmas.{actions-are, chosen-is}
 use Rattle.game_theory.proofs.PlayerSetLemmas.{player_sets-within}
+use Rattle.game_theory.specs.OwnSets.{action_counts}
 use Rattle.enumpure_trees.proofs.WholeChoiceLemmas.{few_choices, some_actions}
 use Rattle.enumpure_trees.proofs.ValueCountLemmas.{counts-few, nodes-few}
 use Rattle.enumpure_trees.proofs.ValueListLemmas.{choice_fits, choice_stops, first_indices-all, values-push}
@@ -100,7 +101,7 @@ returns-in_err-push_choice-clause-stop c =
     let before = (goal.at.returns-in_err-push_choice-clause-stop c).After-deref-in-loop-choice-2 in
     let here = (goal.at.returns-in_err-push_choice-clause-stop c).In-loop-choice in
     exit (values_in t nodes) stop c.from_residual-in_err-push_choice.result
-    (choice_stops t nodes n (numbered here) c.loop-choice.invariant.fit stop c.in_ok-choices.ensures.within (subst (λ (f : ℕ → ℕ). Gives stops.Memory (refused_by (at_choice n) (all_values_in t f nodes)) (Err stop)) (chosen before) c.in_err-push_choice.ensures.stop)) c.from_residual-in_err-push_choice.ensures.1
+    (choice_stops t nodes n (numbered here) c.loop-choice.invariant.fit stop c.in_ok-choices.ensures.within (subst (λ (f : ℕ → ℕ). Gives stops.Memory (refused_by (at_choice n) (all_values_fit t f nodes)) (Err stop)) (chosen before) c.in_err-push_choice.ensures.stop)) c.from_residual-in_err-push_choice.ensures.1
 
 pub loop-choice-preserved : goal.loop-choice-preserved
 loop-choice-preserved c =
@@ -114,7 +115,7 @@ loop-choice-preserved c =
       digits = search rules;
       long = search rules;
       values = values-push t nodes n (numbered here) c.loop-choice.values.items c.push_choice.new.values.items c.loop-choice.invariant.values (subst (λ (f : ℕ → ℕ). c.push_choice.new.values.items ≡ c.loop-choice.values.items ++ node_values t f nodes) (chosen before) c.in_ok-push_choice.ensures.values);
-      fit = choice_fits t nodes n (numbered here) c.loop-choice.invariant.fit (subst (λ (f : ℕ → ℕ). refused_by (at_choice n) (all_values_in t f nodes) (Ok tt)) (chosen before) c.in_ok-push_choice.ensures.stop);
+      fit = choice_fits t nodes n (numbered here) c.loop-choice.invariant.fit (subst (λ (f : ℕ → ℕ). refused_by (at_choice n) (all_values_fit t f nodes) (Ok tt)) (chosen before) c.in_ok-push_choice.ensures.stop);
     }
 
 -- ---- after the loop

@@ -1,7 +1,7 @@
 use Rattle.std.proofs.Common.{ℕ, ◌≡◌, ◌∙◌, inl, inr, Err, ap}
 use Rattle.answers.specs.Answers.{Answer, Gives, refused_by}
 use Rattle.pure_payoffs.specs.Plays.{choice_of, game_of}
-use Rattle.pure_payoffs.specs.Stops.{all_values_in}
+use Rattle.pure_payoffs.specs.Stops.{all_values_fit}
 use Rattle.pure_payoffs.specs.declared.stop.ValueStop.{ValueStop}
 use Rattle.pure_payoffs.specs.declared.stop.ValueStop.TheVariants as value_stops
 use Rattle.enumpure_trees.specs.Told.{at_choice}
@@ -16,4 +16,4 @@ told n p stop reason is (inr h) = inr (stop, h, is)
 
 pub returns-in-Err-clause-stop : goal.returns-in-Err-clause-stop
 returns-in-Err-clause-stop c =
-    told c.args.choice (all_values_in (game_of c.args.play.now) (choice_of c.args.play.now) c.args.nodes.now) c.in-Err.stop c.at_choice.result c.at_choice.ensures c.in-Err.ensures.stop
+    told c.args.choice (all_values_fit (game_of c.args.play.now) (choice_of c.args.play.now) c.args.nodes.now) c.in-Err.stop c.at_choice.result c.at_choice.ensures c.in-Err.ensures.stop

@@ -6,7 +6,7 @@ use Rattle.game_core.specs.declared.game.Game.TheVariants.{Strategic, Extensive}
 use Rattle.game_core.specs.Tree.{GameTree}
 use Rattle.game_core.specs.TreeGame.{game_of_tree}
 use Rattle.enumpure.proofs.OneTextLaws.{text-is}
-use Rattle.enumpure_trees.proofs.OneTextLaws.{stable_text-is}
+use Rattle.enumpure_trees.proofs.OneTextLaws.{passing_text-is}
 use Rattle.gambit_tools.specs.Enumpure.{IsPureText, IsTreeText, enumpure, tree_answer}
 use Rattle.gambit_tools.specs.Make.{counts_text}
 use Rattle.gambit_tools.proofs.ReadGameLemmas.{game_in-valid}
@@ -14,8 +14,8 @@ use Rattle.gambit_tools.proofs.CheckTextLemmas.{verdicts-tell}
 use Rattle.gambit_tools.proofs.tools.texts_hold_for_the_game.Goals as goal
 
 tree_said : (agents perfect : Bool) (tree : GameTree) (text : List ℕ) → tree_answer agents perfect tree (Ok text) → IsTreeText agents perfect tree text
-tree_said true perfect tree text h = stable_text-is true perfect (game_of_tree tree) text h
-tree_said false true tree text h = stable_text-is false true (game_of_tree tree) text h
+tree_said true perfect tree text h = passing_text-is true perfect (game_of_tree tree) text h
+tree_said false true tree text h = passing_text-is false true (game_of_tree tree) text h
 tree_said false false tree text h = (h.0, h.1, text-is _ text h.2)
 
 pure_said : (strategic agents perfect : Bool) (game : Game) (text : List ℕ) → enumpure strategic agents perfect game (Ok text) → IsPureText strategic agents perfect game text

@@ -4,7 +4,7 @@ use Rattle.std.proofs.lemmas.List.Elements.{All-append}
 use Rattle.std.proofs.lemmas.Result.{err_from_is_err_and}
 use Rattle.rational.specs.Rational.{◌*ℚ◌, inv_ℚ, zero_ℚ}
 use Rattle.rational.proofs.InverseLemmas.{ne_zero_of_pos}
-use Rattle.frac128.specs.Steps.{DivFits, unfit, StepFits}
+use Rattle.frac128.specs.Steps.{DivFits, step_of, StepFits}
 use Rattle.frac128.specs.declared.steps.Op.TheVariants.{Div}
 use Rattle.game_theory.specs.Lines.{listed}
 use Rattle.game_theory.proofs.EntryLemmas.{listed-push}
@@ -25,7 +25,7 @@ returns-in_err-div c =
     let p = c.args.point.now in
     let read : c.entry-item.result ≡ entry_at p c.loop-entry.entry-index = c.entry-item.is ∙ get_or_default p c.loop-entry.entry-index c.entry-item.result zero_ℚ c.loop-entry-test.true in
     let stop = err_from_is_err_and c.from_residual-in_err-div.result c.from_residual-in_err-div.ensures.1 in
-    rw (stop.1, stop.2) (inr (inl (c.in_err-div.field-0.0, first_unfit-following (sum_steps p) _ c.in_err-div.field-0.0 c.in_ok-sum.ensures.1 (unfit-first (division p) (length p) c.loop-entry.entry-index c.loop-entry-test.true c.in_err-div.field-0.0 c.loop-entry.invariant.fits (λ f. c.in_err-div.ensures.unfit (subst₂ DivFits (sym read) (sym c.in_ok-sum.ensures.0) f)) (c.in_err-div.ensures.step ∙ ap₂ (λ x y. unfit Div x y) read c.in_ok-sum.ensures.0)), refl)))
+    rw (stop.1, stop.2) (inr (inl (c.in_err-div.field-0.0, first_unfit-following (sum_steps p) _ c.in_err-div.field-0.0 c.in_ok-sum.ensures.1 (unfit-first (division p) (length p) c.loop-entry.entry-index c.loop-entry-test.true c.in_err-div.field-0.0 c.loop-entry.invariant.fits (λ f. c.in_err-div.ensures.unfit (subst₂ DivFits (sym read) (sym c.in_ok-sum.ensures.0) f)) (c.in_err-div.ensures.step ∙ ap₂ (λ x y. step_of Div x y) read c.in_ok-sum.ensures.0)), refl)))
 
 pub returns-in_err-sum : goal.returns-in_err-sum
 returns-in_err-sum c =

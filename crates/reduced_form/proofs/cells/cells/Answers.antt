@@ -12,7 +12,7 @@ use Rattle.game_theory.specs.Trees.{Tree, IsTree}
 use Rattle.reduced_strategies.specs.StrategicForm.{AreStrategies, completed, strategic_form}
 use Rattle.game_core.specs.Table.{most_payoffs}
 use Rattle.game_core.specs.TreeGame.{game_of_tree}
-use Rattle.pure_payoffs.specs.Stops.{payoffs_in}
+use Rattle.pure_payoffs.specs.Stops.{payoffs_fit}
 use Rattle.reduced_form.specs.Cells.{at_profile}
 use Rattle.reduced_form.specs.Stops.{cells_in}
 use Rattle.reduced_form.specs.declared.stop.ReduceStop.{ReduceStop}
@@ -94,7 +94,7 @@ returns-in_err-push_cells-clause-fit c =
     let here = (goal.at.returns-in_err-push_cells-clause-fit c).In-loop-number in
     let before = (goal.at.returns-in_err-push_cells-clause-fit c).After-deref-in-loop-number in
     exit (cells_in t strategies) stop c.from_residual-in_err-push_cells.result
-    (profile_stops t strategies number (numbered here) c.loop-number.invariant.fit stop (subst (λ (choice : ℕ → ℕ). Gives stops.Memory (refused_by (at_profile number) (payoffs_in t choice)) (Err stop)) (chosen before) c.in_err-push_cells.ensures.stop)) c.from_residual-in_err-push_cells.ensures.1
+    (profile_stops t strategies number (numbered here) c.loop-number.invariant.fit stop (subst (λ (choice : ℕ → ℕ). Gives stops.Memory (refused_by (at_profile number) (payoffs_fit t choice)) (Err stop)) (chosen before) c.in_err-push_cells.ensures.stop)) c.from_residual-in_err-push_cells.ensures.1
 
 pub loop-number-preserved : goal.loop-number-preserved
 loop-number-preserved c =
@@ -111,7 +111,7 @@ loop-number-preserved c =
       digits = search rules;
       so_many = ap length more ∙ length-append c.loop-number.payoffs.items (listed t.players pays) ∙ omega (arith, c.loop-number.invariant.so_many, length-listed t.players pays);
       cells = cells-more t strategies c.loop-number.payoffs.items _ number c.loop-number.invariant.so_many more c.loop-number.invariant.cells;
-      fit = profile_fits t strategies number (numbered here) c.loop-number.invariant.fit (subst (λ (choice : ℕ → ℕ). refused_by (at_profile number) (payoffs_in t choice) (Ok tt)) (chosen before) c.in_ok-push_cells.ensures.stop);
+      fit = profile_fits t strategies number (numbered here) c.loop-number.invariant.fit (subst (λ (choice : ℕ → ℕ). refused_by (at_profile number) (payoffs_fit t choice) (Ok tt)) (chosen before) c.in_ok-push_cells.ensures.stop);
     }
 
 pub returns-clause-fit : goal.returns-clause-fit

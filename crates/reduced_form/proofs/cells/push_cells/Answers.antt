@@ -1,7 +1,7 @@
 use Rattle.std.proofs.Common.{ℕ, ◌≡◌, ◌∙◌, inl, inr, Err, ap}
 use Rattle.answers.specs.Answers.{Answer, Gives, refused_by}
 use Rattle.pure_payoffs.specs.Plays.{choice_of, game_of}
-use Rattle.pure_payoffs.specs.Stops.{payoffs_in}
+use Rattle.pure_payoffs.specs.Stops.{payoffs_fit}
 use Rattle.pure_payoffs.specs.declared.stop.PayoffStop.{PayoffStop}
 use Rattle.pure_payoffs.specs.declared.stop.PayoffStop.TheVariants as payoff_stops
 use Rattle.reduced_form.specs.Cells.{at_profile}
@@ -16,4 +16,4 @@ told k p stop reason is (inr h) = inr (stop, h, is)
 
 pub returns-in-Err-clause-stop : goal.returns-in-Err-clause-stop
 returns-in-Err-clause-stop c =
-    told c.args.number (payoffs_in (game_of c.args.play.now) (choice_of c.args.play.now)) c.in-Err.stop c.at_profile.result c.at_profile.ensures c.in-Err.ensures.stop
+    told c.args.number (payoffs_fit (game_of c.args.play.now) (choice_of c.args.play.now)) c.in-Err.stop c.at_profile.result c.at_profile.ensures c.in-Err.ensures.stop

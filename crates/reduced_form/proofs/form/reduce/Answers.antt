@@ -6,7 +6,7 @@ use Rattle.game_core.specs.TreeGame.{game_of_tree}
 use Rattle.reduced_strategies.specs.StrategicForm.{AreStrategies}
 use Rattle.reduced_form.specs.Cells.{AreCells}
 use Rattle.reduced_form.specs.Counts.{AreCounted}
-use Rattle.reduced_form.specs.Limits.{choices_by, most_choices}
+use Rattle.reduced_form.specs.Limits.{choices_of, most_choices}
 use Rattle.reduced_form.specs.ReducedForm.{IsReducedForm}
 use Rattle.reduced_form.specs.Stops.{within_limits}
 use Rattle.reduced_form.proofs.FormCountLemmas.{counted-same}
@@ -30,7 +30,7 @@ same c = counted-same (game_of_tree c.args.tree.now) c.in_ok-counts.counts.items
 few : (c : In_ok-choices) → within_limits (game_of_tree c.args.tree.now) c.in_ok-choices.choices (Ok tt)
 few c =
     form-within (game_of_tree c.args.tree.now) c.in_ok-counts.counts.items c.in_ok-choices.choices (counted c) (listed c) (rw c.in_ok-decisions.ensures at (c.in_ok-counts.ensures {u = tt}).few)
-    (subst (λ (ns : List ℕ). choices_by (game_of_tree c.args.tree.now) 0 ns ≤ most_choices) c.deref-2.ensures.value (c.in_ok-check_choices.ensures {u = tt}).few)
+    (subst (λ (ns : List ℕ). choices_of (game_of_tree c.args.tree.now) ns ≤ most_choices) c.deref-2.ensures.value (c.in_ok-check_choices.ensures {u = tt}).few)
 
 -- there is a payoff for each cell
 long : (c : In_ok-payoffs) → c.in_ok-counts.counts.items ≡ map length c.in_ok-choices.choices → length c.in_ok-payoffs.payoffs.items ≡ length c.args.tree.now.players * profile_count (map length c.in_ok-choices.choices)

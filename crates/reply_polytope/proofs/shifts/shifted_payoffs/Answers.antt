@@ -3,7 +3,7 @@ use borrow.Author.Count.{below_more}
 use Rattle.std.specs.List.{range_with_len}
 use Rattle.std.proofs.lemmas.List.FromFn.{map-range_with_len_more}
 use Rattle.rational.specs.Rational.{◌-ℚ◌, ◌+ℚ◌}
-use Rattle.frac128.specs.Steps.{AddFits, SubFits, unfit}
+use Rattle.frac128.specs.Steps.{AddFits, SubFits, step_of}
 use Rattle.frac128.specs.declared.steps.Op.TheVariants.{Add, Sub}
 use Rattle.game_theory.specs.Profiles.{profile_count}
 use Rattle.game_core.specs.Table.{game_of, strategy_counts}
@@ -16,7 +16,7 @@ returns-in-Err c =
     let g = game_of c.args.table.now in
     let i = c.args.player in
     let least = c.least_payoff-least.result in
-    inr (shift_stops g i least c.least_payoff-least.ensures 0 c.in-Err.unfit (unfit Sub _ least) (c.in-Err.ensures.step ∙ ap (λ x. unfit Sub x least) c.one.ensures)
+    inr (shift_stops g i least c.least_payoff-least.ensures 0 c.in-Err.unfit (step_of Sub _ least) (c.in-Err.ensures.step ∙ ap (λ x. step_of Sub x least) c.one.ensures)
     (unfit_difference (g.pays i) least (profile_count g.strategies) (subst (λ n. 0 < n) c.requires.profiles c.requires.some) (λ f. c.in-Err.ensures.unfit (subst (λ x. SubFits x least) (sym c.one.ensures) f))))
 
 pub returns-in-Err-add : goal.returns-in-Err-add
@@ -27,7 +27,7 @@ returns-in-Err-add c =
     let least = c.least_payoff-least.result in
     let shift : c.in-Ok.shift ≡ shift_of least = c.in-Ok.ensures.value ∙ ap (λ x. x -ℚ least) c.one.ensures in
     let read = c.payoff_at.ensures in
-    inr (shift_stops g i least c.least_payoff-least.ensures k c.in-Err-add.unfit (unfit Add (g.pays i k) (shift_of least)) (c.in-Err-add.ensures.step ∙ ap₂ (λ x y. unfit Add x y) read shift)
+    inr (shift_stops g i least c.least_payoff-least.ensures k c.in-Err-add.unfit (step_of Add (g.pays i k) (shift_of least)) (c.in-Err-add.ensures.step ∙ ap₂ (λ x y. step_of Add x y) read shift)
     (unfit_sum (g.pays i) least (profile_count g.strategies) (subst (λ x. SubFits x least) c.one.ensures c.in-Ok.ensures.fits) k (subst (λ n. k < n) c.requires.profiles c.loop-profile-test.true)
     (λ j l. subst (λ x. AddFits (g.pays i j) x) shift (c.loop-profile.invariant.fit j l))
     (λ f. c.in-Err-add.ensures.unfit (subst₂ (λ x y. AddFits x y) (sym read) (sym shift) f))))

@@ -1,8 +1,8 @@
 use Rattle.std.proofs.Common.{List, [], ◌∷◌, ◌++◌, Ok, Err}
 use Rattle.std.proofs.lemmas.Result.{err_from_is_err_and}
-use Rattle.frac128.specs.Steps.{unfit, Step}
+use Rattle.frac128.specs.Steps.{step_of, Step}
 use Rattle.frac128.specs.declared.steps.Op.TheVariants.{Add}
-use Rattle.sequence_data.specs.Steps.{product_steps}
+use Rattle.sequence_data.specs.Steps.{added_product_steps}
 use Rattle.sequence_data.specs.declared.types.Cell.{Cell}
 use Rattle.sequence_data.specs.declared.types.Leaf.{Leaf}
 use Rattle.sequence_data.proofs.StepStageLemmas.{fit_at-following, fit_at-more}
@@ -10,13 +10,13 @@ use Rattle.sequence_data.proofs.cells.with_leaf.Goals as goal
 
 -- the steps of the chance, and of either payoff
 abbrev weight_steps : Cell → Leaf → List Step
-weight_steps c l = unfit Add c.weight l.chance ∷ []
+weight_steps c l = step_of Add c.weight l.chance ∷ []
 
 abbrev first_steps : Cell → Leaf → List Step
-first_steps c l = product_steps c.one l.chance l.one
+first_steps c l = added_product_steps c.one l.chance l.one
 
 abbrev second_steps : Cell → Leaf → List Step
-second_steps c l = product_steps c.two l.chance l.two
+second_steps c l = added_product_steps c.two l.chance l.two
 
 pub returns-in_err-weight-clause-steps : goal.returns-in_err-weight-clause-steps
 returns-in_err-weight-clause-steps c =

@@ -2,10 +2,9 @@ use Rattle.std.proofs.Common.{suc, ◌-◌, ◌<◌, ◌≡◌, None, length, ma
 use Rattle.std.proofs.lemmas.List.{length-map}
 use Rattle.std.proofs.lemmas.Option.{slice_get-get_or}
 use Rattle.strategy_lists.specs.declared.decision.Decision.{Decision}
-use Rattle.strategy_lists.specs.Ways.{AreAfter, ways_where}
-use Rattle.strategy_lists.proofs.WayCountLemmas.{is_first}
+use Rattle.strategy_lists.proofs.WayCountLemmas.{AreAfter, is_first, ways_where}
 use Rattle.strategy_lists.proofs.WayProductLemmas.{all_ends-counted}
-use Rattle.strategy_lists.proofs.WayCountLemmas.{first-start, first-more, first-stays, ways-summed, edge-before, AreAfter-first, AreAfter-multiplied}
+use Rattle.strategy_lists.proofs.WayCountLemmas.{first-start, first-more, first-stays, ways-summed, edge-before, AreAfter-first, AreAfter-multiplied, AreAfter-ones}
 use Rattle.strategy_lists.proofs.count.count_apart.Goals as goal
 
 -- a decision where there is none
@@ -15,7 +14,7 @@ none_there = record { place = 0; before = None }
 pub loop-left-init : goal.loop-left-init
 loop-left-init c = record {
   within = omega arith;
-  following = c.in_ok-following.ensures c.args.limit c.requires.limit;
+  following = AreAfter-ones (λ v. v.items) c.args.decisions.now c.args.actions.now c.args.limit c.in_ok-following.following.items c.requires.limit c.in_ok-following.ensures;
   first = first-start c.args.decisions.now c.args.actions.now c.args.limit is_first c.requires.limit;
 }
 

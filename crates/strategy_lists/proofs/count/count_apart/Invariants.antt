@@ -1,6 +1,5 @@
 use Rattle.std.proofs.Common.{◌≡◌, ◌≤◌, length, map, min}
-use Rattle.strategy_lists.specs.Ways.{AreAfter, ways_where}
-use Rattle.strategy_lists.proofs.WayCountLemmas.{is_first}
+use Rattle.strategy_lists.proofs.WayCountLemmas.{AreAfter, is_first, ways_where}
 use Rattle.strategy_lists.proofs.count.count_apart.Given as goal
 
 abbrev pub invariant-loop-left : goal.invariant-loop-left

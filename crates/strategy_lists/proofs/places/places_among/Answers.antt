@@ -2,7 +2,7 @@ use Rattle.std.proofs.Common.{ℕ, ◌≡◌, ◌∙◌, None, length, drop, get
 use Rattle.std.proofs.lemmas.List.{take_at}
 use Rattle.game_core.specs.Tree.{IsBelow}
 use Rattle.strategy_lists.specs.OwnNumbers.{counted}
-use Rattle.strategy_lists.proofs.OwnNumberLemmas.{AreCounts-next, ArePlacesBelow-next, counts-room, place-counted}
+use Rattle.strategy_lists.proofs.OwnNumberLemmas.{AreCounts-next, ArePlacesAmong-all, ArePlacesBelow-next, counts-room, place-counted}
 use Rattle.strategy_lists.proofs.places.places_among.Goals as goal
 
 pub next_place-requires-clause-few : goal.next_place-requires-clause-few
@@ -23,3 +23,6 @@ loop-owner-preserved c =
     let kept = take_at c.next_place.new.counts (drop (length c.next_place.new.counts) c.loop-owner.counts.items) c.loop-owner.counts.len long ∙ counts in
     let players : length (counted c.loop-owner.counts.items (owner index)) ≡ c.args.players = omega (arith, ap length counts) in
     rw (kept, add-one, c.in_ok-push.ensures.items) (players, next, places)
+
+pub returns : goal.returns
+returns c = ArePlacesAmong-all c.args.owners.now c.loop-owner.owner-index c.loop-owner.places.items (omega arith) c.loop-owner.invariant.2

@@ -1,6 +1,5 @@
 use Rattle.std.proofs.Common.{◌≡◌, None, length, get_or}
-use Rattle.strategy_lists.specs.OwnNumbers.{ArePlacesBelow}
-use Rattle.strategy_lists.proofs.OwnNumberLemmas.{AreCounts}
+use Rattle.strategy_lists.proofs.OwnNumberLemmas.{AreCounts, ArePlacesBelow}
 use Rattle.strategy_lists.proofs.places.places_among.Given as goal
 
 -- the counts of the players' numbers so far, and the places of those numbers

@@ -13,7 +13,7 @@ returns-in_err-solve_at c =
     let known = c.loop-root.known in
     let below : root < length t.nodes = omega (arith, c.loop-root.invariant.within, c.loop-root-test.true) in
     let next : c.loop-root.root ≡ root + 1 = omega (arith, c.loop-root-test.true) in
-    perfect-stop c.args.method t root known c.in_err-solve_at.field-0.0 c.from_residual.result below ((c.begins_at.ensures t c.requires.subgames below).0 c.if-begins_at.true)
+    perfect-stop c.args.method t root known c.in_err-solve_at.field-0.0 c.from_residual.result below ((c.begins_at.ensures.root t c.requires.subgames below).0 c.if-begins_at.true)
     (subst (λ n. AreSolvedFrom c.args.method t n known) next c.loop-root.invariant.solved) c.in_err-solve_at.ensures.stops c.from_residual.ensures.1
 
 pub loop-root-preserved : goal.loop-root-preserved
@@ -25,7 +25,7 @@ loop-root-preserved c =
     let next : c.loop-root.root ≡ root + 1 = omega (arith, c.loop-root-test.true) in
     record {
       within = omega (arith, c.loop-root.invariant.within);
-      solved = solved-passed c.args.method t root known (λ begins. cc ((c.begins_at.ensures t c.requires.subgames below).1 begins, c.if-begins_at.false))
+      solved = solved-passed c.args.method t root known (λ begins. cc ((c.begins_at.ensures.root t c.requires.subgames below).1 begins, c.if-begins_at.false))
           (subst (λ n. AreSolvedFrom c.args.method t n known) next c.loop-root.invariant.solved);
     }
 

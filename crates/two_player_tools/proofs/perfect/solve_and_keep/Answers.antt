@@ -4,7 +4,7 @@ use Rattle.std.specs.Vec.{with_items}
 use Rattle.answers.proofs.AnswerLemmas.{if_stop}
 use Rattle.refusals.specs.declared.refusal.Refusal.TheVariants as refusal
 use Rattle.two_player_tools.specs.KnownCuts.{AreKeptTo, lists_of, worth_in}
-use Rattle.two_player_tools.specs.Perfect.{IsStoppedAt, cut_in}
+use Rattle.two_player_tools.specs.Perfect.{IsStoppedAt, cut_entries_in}
 use Rattle.two_player_tools.specs.declared.perfect.Known.{Known}
 use Rattle.two_player_tools.proofs.KnownCutLemmas.{IsRowKept, cut-stop, sets-within, solved-next}
 use Rattle.two_player_tools.proofs.perfect.solve_and_keep.Goals as goal
@@ -42,4 +42,4 @@ returns-clause-solved c =
     (subst (λ lists. AreKeptTo made (length made.tree.sets) found.0 (map (λ v. v.items) lists) (map (λ v. v.items) c.keep_lists.new.lists)) c.as_mut_slice.ensures.value (c.in_ok-keep_lists.ensures found.0 found.1)))
     (subst (IsRowKept root payoffs known.worth.items) (sym (with_items_is known.worth c.keep_worth.new.worth (c.keep_worth.ensures.as_many ∙ c.as_mut_slice-2.ensures.len)))
     (subst₂ (λ row old. IsRowKept root row old c.keep_worth.new.worth) c.as_slice.ensures.value c.as_mut_slice-2.ensures.value (record { as_many = c.keep_worth.ensures.as_many; kept = c.keep_worth.ensures.kept; others = c.keep_worth.ensures.others })))
-    (subst (λ entries. cut_in c.args.method root made (Ok entries)) found.1 c.in_ok-solved.ensures.answer) c.requires.later
+    (subst (λ entries. cut_entries_in c.args.method root made (Ok entries)) found.1 c.in_ok-solved.ensures.answer) c.requires.later

@@ -17,16 +17,18 @@ returns-in_err-payoff-clause-unfit c =
     let g = game_of c.args.table.now in
     let m = mixed_of (strategy_counts c.args.table.now) c.args.mixed.now in
     let p = err_from_is_err_and c.from_residual-in_err-payoff.result c.from_residual-in_err-payoff.ensures.1 in
-    rw (p.1, p.2) (first_unfit-following (value_steps g m c.args.player) (payoff_steps g m c.args.player) c.in_err-payoff.field-0.0 c.in_ok-best.ensures.fits c.in_err-payoff.ensures)
+    let gives = rw c.in_err-payoff.was at c.in_ok-best.ensures.payoff in
+    rw (p.1, p.2) (first_unfit-following (value_steps g m c.args.player) (payoff_steps g m c.args.player) c.in_err-payoff.field-0.0 c.in_ok-best.ensures.fits gives)
 
 pub returns-then-is_less-clause-found : goal.returns-then-is_less-clause-found
 returns-then-is_less-clause-found c =
     let g = game_of c.args.table.now in
     let m = mixed_of (strategy_counts c.args.table.now) c.args.mixed.now in
+    let gives = rw c.in_ok-payoff.was at c.in_ok-best.ensures.payoff in
     record {
-      fit = All-append StepFits (value_steps g m c.args.player) (payoff_steps g m c.args.player) c.in_ok-best.ensures.fits c.in_ok-payoff.ensures.1;
+      fit = All-append StepFits (value_steps g m c.args.player) (payoff_steps g m c.args.player) c.in_ok-best.ensures.fits gives.1;
       is_best = c.in_ok-best.ensures.best;
-      payoff_is = c.in_ok-payoff.ensures.0;
+      payoff_is = gives.0;
       best_is = c.in_ok-best.ensures.value;
       pays_more = c.is_less.ensures.0 c.if-is_less.true;
     }
@@ -35,8 +37,9 @@ pub returns-else-is_less-clause-found : goal.returns-else-is_less-clause-found
 returns-else-is_less-clause-found c =
     let g = game_of c.args.table.now in
     let m = mixed_of (strategy_counts c.args.table.now) c.args.mixed.now in
+    let gives = rw c.in_ok-payoff.was at c.in_ok-best.ensures.payoff in
     record {
-      fit = All-append StepFits (value_steps g m c.args.player) (payoff_steps g m c.args.player) c.in_ok-best.ensures.fits c.in_ok-payoff.ensures.1;
-      no_more = λ s b. le_trans _ _ _ (c.in_ok-best.ensures.best.greatest s b) (subst (λ x. x ≤ℚ payoff_of g m c.args.player) c.in_ok-best.ensures.value (subst (λ x. c.in_ok-best.best.value ≤ℚ x) c.in_ok-payoff.ensures.0
-          (elim (le_or_lt c.in_ok-best.best.value c.in_ok-payoff.payoff) [ inl le ↦ le | inr lt ↦ absurd (false≢true (sym c.if-is_less.false ∙ c.is_less.ensures.1 lt)) ])));
+      fit = All-append StepFits (value_steps g m c.args.player) (payoff_steps g m c.args.player) c.in_ok-best.ensures.fits gives.1;
+      no_more = λ s b. le_trans _ _ _ (c.in_ok-best.ensures.best.greatest s b) (subst (λ x. x ≤ℚ payoff_of g m c.args.player) c.in_ok-best.ensures.value (subst (λ x. c.in_ok-best.field-0.best.value ≤ℚ x) gives.0
+          (elim (le_or_lt c.in_ok-best.field-0.best.value c.in_ok-payoff.payoff) [ inl le ↦ le | inr lt ↦ absurd (false≢true (sym c.if-is_less.false ∙ c.is_less.ensures.1 lt)) ])));
     }

@@ -22,4 +22,4 @@ returns c = λ b choice reads ascend best.
     let weights = c.in_ok-set_weights.ensures b reads in
     let start = decided-none (game_of c.args.board.now) b c.args.player choice _ _ _ c.requires.board.tree ascend best weights.0 in
     let decided = c.in_ok-decide_all.ensures.decided b choice start in
-    third-gives _ _ _ weights.1 decided.1 _ c.value.result (c.value.ensures b choice 0 decided.0 (λ k s inside below at own. omega arith)) (λ s l o. decided.0.choices_are s (omega arith) l o)
+    third-gives _ _ _ weights.1 decided.1 _ c.value.result (c.value.ensures b choice 0 decided.0 (λ k s inside below at own. omega arith)) decided.0.choices_are

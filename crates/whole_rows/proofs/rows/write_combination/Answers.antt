@@ -1,4 +1,4 @@
-use Rattle.std.proofs.Common.{◌≡◌, length, subst₂, to_z, of_z, arith, All}
+use Rattle.std.proofs.Common.{◌≡◌, length, subst, subst₂, to_z, of_z, arith, All}
 use Rattle.std.specs.Int.{w128}
 use Rattle.std.proofs.lemmas.Int.{to_z-of_z}
 use Rattle.frac128.specs.Fraction.{PartFits}
@@ -13,6 +13,14 @@ returns-in_default-clause-unfit c =
     unfit_in_row (from_place c.args.numbers.now c.args.own) (from_place c.args.numbers.now c.args.first) c.args.column c.args.u c.args.v c.loop-place.place c.args.size c.unfit_at.result c.loop-place-test.true
     (subst₂ (λ u v. All StepFits (steps_to (from_place c.args.numbers.now c.args.own) (from_place c.args.numbers.now c.args.first) c.args.column u v c.loop-place.place)) (to_z-of_z w128 c.args.u c.ranges.u) (to_z-of_z w128 c.args.v c.ranges.v) c.loop-place.invariant.fits)
     (subst₂ (λ u v. IsFirstUnfit (place_steps (from_place c.args.numbers.now c.args.own) (from_place c.args.numbers.now c.args.first) c.args.column u v c.loop-place.place) c.unfit_at.result) (to_z-of_z w128 c.args.u c.ranges.u) (to_z-of_z w128 c.args.v c.ranges.v) c.unfit_at.ensures)
+
+pub returns-clause-fits : goal.returns-clause-fits
+returns-clause-fits c =
+    let row = from_place c.args.numbers.now c.args.own in
+    let first = from_place c.args.numbers.now c.args.first in
+    let end : c.loop-place.place ≡ c.args.size = omega (arith, c.loop-place-test.false, c.loop-place.auto.place-end) in
+    subst (λ n. All StepFits (steps_to row first c.args.column c.args.u c.args.v n)) end
+    (subst₂ (λ u v. All StepFits (steps_to row first c.args.column u v c.loop-place.place)) (to_z-of_z w128 c.args.u c.ranges.u) (to_z-of_z w128 c.args.v c.ranges.v) c.loop-place.invariant.fits)
 
 pub loop-place-preserved : goal.loop-place-preserved
 loop-place-preserved c =

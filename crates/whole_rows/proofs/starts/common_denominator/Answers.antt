@@ -1,7 +1,7 @@
 use Rattle.std.proofs.Common.{◌∙◌, ◌*ℤ◌, ◌/◌, ap, ap₂, pos, nat_abs, subst, sym, arith}
 use Rattle.rational.specs.Gcd.{gcd}
 use Rattle.frac128.specs.Fraction.{PartFits}
-use Rattle.whole_rows.specs.Steps.{times}
+use Rattle.whole_rows.specs.Steps.{product_step}
 use Rattle.whole_rows.specs.StartRows.{cells_from, common_to}
 use Rattle.whole_rows.proofs.FittingStepLemmas.{read_back}
 use Rattle.whole_rows.proofs.RowWriteLemmas.{plus_one}
@@ -21,4 +21,4 @@ loop-k-preserved c =
 
 pub returns-in_default-clause-unfit : goal.returns-in_default-clause-unfit
 returns-in_default-clause-unfit c =
-    denominator_unfit (cells_from c.args.cells.now c.args.from) c.loop-k.k c.args.count c.unfit_product.result c.loop-k-test.true c.loop-k.invariant.steps (λ f. c.in_default.ensures (subst PartFits (sym (ap₂ (λ a b. a *ℤ b) c.loop-k.invariant.value (read_back c.added-part.result c.added-part.ensures.fits ∙ c.added-part.ensures.value ∙ ap₂ (λ a b. pos (nat_abs a / gcd (nat_abs b) (nat_abs a))) (den_read c.index-cells-from.result ((cells_from c.args.cells.now c.args.from) c.loop-k.k) c.den.result c.den.ensures.value c.den.ensures.fits (cell_read c.args.cells.now c.args.from c.loop-k.k c.index-cells-from.result (omega (arith, c.requires.row_in, c.loop-k-test.true)) c.index-cells-from.is)) c.loop-k.invariant.value))) f)) (c.unfit_product.ensures ∙ ap₂ times c.loop-k.invariant.value (read_back c.added-part.result c.added-part.ensures.fits ∙ c.added-part.ensures.value ∙ ap₂ (λ a b. pos (nat_abs a / gcd (nat_abs b) (nat_abs a))) (den_read c.index-cells-from.result ((cells_from c.args.cells.now c.args.from) c.loop-k.k) c.den.result c.den.ensures.value c.den.ensures.fits (cell_read c.args.cells.now c.args.from c.loop-k.k c.index-cells-from.result (omega (arith, c.requires.row_in, c.loop-k-test.true)) c.index-cells-from.is)) c.loop-k.invariant.value))
+    denominator_unfit (cells_from c.args.cells.now c.args.from) c.loop-k.k c.args.count c.unfit_product.result c.loop-k-test.true c.loop-k.invariant.steps (λ f. c.in_default.ensures (subst PartFits (sym (ap₂ (λ a b. a *ℤ b) c.loop-k.invariant.value (read_back c.added-part.result c.added-part.ensures.fits ∙ c.added-part.ensures.value ∙ ap₂ (λ a b. pos (nat_abs a / gcd (nat_abs b) (nat_abs a))) (den_read c.index-cells-from.result ((cells_from c.args.cells.now c.args.from) c.loop-k.k) c.den.result c.den.ensures.value c.den.ensures.fits (cell_read c.args.cells.now c.args.from c.loop-k.k c.index-cells-from.result (omega (arith, c.requires.row_in, c.loop-k-test.true)) c.index-cells-from.is)) c.loop-k.invariant.value))) f)) (c.unfit_product.ensures ∙ ap₂ product_step c.loop-k.invariant.value (read_back c.added-part.result c.added-part.ensures.fits ∙ c.added-part.ensures.value ∙ ap₂ (λ a b. pos (nat_abs a / gcd (nat_abs b) (nat_abs a))) (den_read c.index-cells-from.result ((cells_from c.args.cells.now c.args.from) c.loop-k.k) c.den.result c.den.ensures.value c.den.ensures.fits (cell_read c.args.cells.now c.args.from c.loop-k.k c.index-cells-from.result (omega (arith, c.requires.row_in, c.loop-k-test.true)) c.index-cells-from.is)) c.loop-k.invariant.value))

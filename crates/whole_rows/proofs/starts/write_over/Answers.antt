@@ -3,7 +3,7 @@ use Rattle.std.proofs.lemmas.List.{length-set}
 use Rattle.rational.proofs.DenominatorLemmas.{den_pos}
 use Rattle.frac128.specs.Fraction.{PartFits}
 use Rattle.whole_rows.specs.Rows.{from_place}
-use Rattle.whole_rows.specs.Steps.{times}
+use Rattle.whole_rows.specs.Steps.{product_step}
 use Rattle.whole_rows.specs.StartRows.{cells_from, common_to}
 use Rattle.whole_rows.proofs.FittingStepLemmas.{read_back}
 use Rattle.whole_rows.proofs.StartRowLemmas.{cell_read, den_read, num_read, den_divides, divides_read, quotient_is, numerator_next, numerator_unfit, row_more, lead_more, kept_more, start_read}
@@ -17,7 +17,7 @@ returns-in_default-clause-kept c k h = c.loop-k.invariant.kept k (elim h [ inl l
 
 pub returns-in_default-clause-unfit : goal.returns-in_default-clause-unfit
 returns-in_default-clause-unfit c =
-    numerator_unfit (cells_from c.args.cells.now c.args.from) (common_to (cells_from c.args.cells.now c.args.from) c.args.count) c.loop-k.k c.args.count c.unfit_product.result c.loop-k-test.true c.loop-k.invariant.fits (λ f. c.in_default.ensures (subst PartFits (sym (ap₂ (λ a b. a *ℤ b) (num_read c.index-cells-from.result ((cells_from c.args.cells.now c.args.from) c.loop-k.k) c.num.result c.num.ensures.value c.num.ensures.fits.num (cell_read c.args.cells.now c.args.from c.loop-k.k c.index-cells-from.result (omega (arith, c.requires.row_in, c.loop-k-test.true)) c.index-cells-from.is)) (read_back c.exact_quotient-part.result c.exact_quotient-part.ensures.fits ∙ (quotient_is c.exact_quotient-part.result _ _ (common_to (cells_from c.args.cells.now c.args.from) c.args.count) ((cells_from c.args.cells.now c.args.from) c.loop-k.k).den (den_pos ((cells_from c.args.cells.now c.args.from) c.loop-k.k)) (den_divides (cells_from c.args.cells.now c.args.from) c.args.count c.loop-k.k c.loop-k-test.true) (read_back c.args.common c.requires.fits ∙ c.requires.common) (den_read c.index-cells-from.result ((cells_from c.args.cells.now c.args.from) c.loop-k.k) c.den.result c.den.ensures.value c.den.ensures.fits (cell_read c.args.cells.now c.args.from c.loop-k.k c.index-cells-from.result (omega (arith, c.requires.row_in, c.loop-k-test.true)) c.index-cells-from.is)) c.exact_quotient-part.ensures.value)))) f)) (c.unfit_product.ensures ∙ ap₂ times (num_read c.index-cells-from.result ((cells_from c.args.cells.now c.args.from) c.loop-k.k) c.num-in_default.result c.num-in_default.ensures.value c.num-in_default.ensures.fits.num (cell_read c.args.cells.now c.args.from c.loop-k.k c.index-cells-from.result (omega (arith, c.requires.row_in, c.loop-k-test.true)) c.index-cells-from.is)) (read_back c.exact_quotient-part.result c.exact_quotient-part.ensures.fits ∙ (quotient_is c.exact_quotient-part.result _ _ (common_to (cells_from c.args.cells.now c.args.from) c.args.count) ((cells_from c.args.cells.now c.args.from) c.loop-k.k).den (den_pos ((cells_from c.args.cells.now c.args.from) c.loop-k.k)) (den_divides (cells_from c.args.cells.now c.args.from) c.args.count c.loop-k.k c.loop-k-test.true) (read_back c.args.common c.requires.fits ∙ c.requires.common) (den_read c.index-cells-from.result ((cells_from c.args.cells.now c.args.from) c.loop-k.k) c.den.result c.den.ensures.value c.den.ensures.fits (cell_read c.args.cells.now c.args.from c.loop-k.k c.index-cells-from.result (omega (arith, c.requires.row_in, c.loop-k-test.true)) c.index-cells-from.is)) c.exact_quotient-part.ensures.value)))
+    numerator_unfit (cells_from c.args.cells.now c.args.from) (common_to (cells_from c.args.cells.now c.args.from) c.args.count) c.loop-k.k c.args.count c.unfit_product.result c.loop-k-test.true c.loop-k.invariant.fits (λ f. c.in_default.ensures (subst PartFits (sym (ap₂ (λ a b. a *ℤ b) (num_read c.index-cells-from.result ((cells_from c.args.cells.now c.args.from) c.loop-k.k) c.num.result c.num.ensures.value c.num.ensures.fits.num (cell_read c.args.cells.now c.args.from c.loop-k.k c.index-cells-from.result (omega (arith, c.requires.row_in, c.loop-k-test.true)) c.index-cells-from.is)) (read_back c.exact_quotient-part.result c.exact_quotient-part.ensures.fits ∙ (quotient_is c.exact_quotient-part.result _ _ (common_to (cells_from c.args.cells.now c.args.from) c.args.count) ((cells_from c.args.cells.now c.args.from) c.loop-k.k).den (den_pos ((cells_from c.args.cells.now c.args.from) c.loop-k.k)) (den_divides (cells_from c.args.cells.now c.args.from) c.args.count c.loop-k.k c.loop-k-test.true) (read_back c.args.common c.requires.fits ∙ c.requires.common) (den_read c.index-cells-from.result ((cells_from c.args.cells.now c.args.from) c.loop-k.k) c.den.result c.den.ensures.value c.den.ensures.fits (cell_read c.args.cells.now c.args.from c.loop-k.k c.index-cells-from.result (omega (arith, c.requires.row_in, c.loop-k-test.true)) c.index-cells-from.is)) c.exact_quotient-part.ensures.value)))) f)) (c.unfit_product.ensures ∙ ap₂ product_step (num_read c.index-cells-from.result ((cells_from c.args.cells.now c.args.from) c.loop-k.k) c.num-in_default.result c.num-in_default.ensures.value c.num-in_default.ensures.fits.num (cell_read c.args.cells.now c.args.from c.loop-k.k c.index-cells-from.result (omega (arith, c.requires.row_in, c.loop-k-test.true)) c.index-cells-from.is)) (read_back c.exact_quotient-part.result c.exact_quotient-part.ensures.fits ∙ (quotient_is c.exact_quotient-part.result _ _ (common_to (cells_from c.args.cells.now c.args.from) c.args.count) ((cells_from c.args.cells.now c.args.from) c.loop-k.k).den (den_pos ((cells_from c.args.cells.now c.args.from) c.loop-k.k)) (den_divides (cells_from c.args.cells.now c.args.from) c.args.count c.loop-k.k c.loop-k-test.true) (read_back c.args.common c.requires.fits ∙ c.requires.common) (den_read c.index-cells-from.result ((cells_from c.args.cells.now c.args.from) c.loop-k.k) c.den.result c.den.ensures.value c.den.ensures.fits (cell_read c.args.cells.now c.args.from c.loop-k.k c.index-cells-from.result (omega (arith, c.requires.row_in, c.loop-k-test.true)) c.index-cells-from.is)) c.exact_quotient-part.ensures.value)))
 
 pub loop-k-preserved : goal.loop-k-preserved
 loop-k-preserved c =

@@ -3,7 +3,7 @@ use Rattle.std.proofs.lemmas.Bool.{cases_lt}
 use Rattle.std.proofs.lemmas.List.{get_or_past}
 use Rattle.rational.specs.Rational.{ℚ}
 use Rattle.lex_tableau.specs.Entries.{AreNumbered}
-use Rattle.lex_tableau.specs.Starts.{IsSystem, parts_of}
+use Rattle.lex_tableau.specs.Starts.{IsSystem, linear_system}
 use Rattle.worked_tableaux.proofs.systems.system.Goals as goal
 
 small : (first n : ℕ) (xs : List ℕ) → AreNumbered first n xs → first + n < 2 ^ 32 → (i : ℕ)
@@ -20,7 +20,7 @@ small first n xs h few i = go (cases_lt i n)
 numbered_system : (rows width rated : ℕ) (basics nonbasics : List ℕ) (cells : List ℚ)
     → rows + width < 2 ^ 32 → AreNumbered 0 rows basics → AreNumbered rows width nonbasics
     → length cells ≡ rows * (width + 1) → rated ≤ rows
-    → IsSystem (parts_of basics nonbasics cells rated)
+    → IsSystem (linear_system basics nonbasics cells rated)
 numbered_system rows width rated basics nonbasics cells few b c e r =
     record {
       distinct = record {

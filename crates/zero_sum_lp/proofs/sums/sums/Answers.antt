@@ -1,5 +1,5 @@
 use Rattle.std.proofs.Common.{[], inr, refl, subst, sym}
-use Rattle.frac128.specs.Steps.{unfit, IsFirstUnfit}
+use Rattle.frac128.specs.Steps.{step_of, IsFirstUnfit}
 use Rattle.frac128.specs.declared.steps.Op.TheVariants.{Add}
 use Rattle.frac128.proofs.StepRunLemmas.{first_unfit-here, one-fits}
 use Rattle.frac128.proofs.FirstUnfitLemmas.{fits_next, first_unfit_here, made_next}
@@ -14,5 +14,5 @@ pub loop-leaf-preserved : goal.loop-leaf-preserved
 loop-leaf-preserved c =
     record {
       made = made_next sum_steps c.args.leaves.now c.loop-leaf.leaf-index c.leaf-item.result c.loop-leaf-test.true c.leaf-item.is sum_at c.loop-leaf.sums.items c.push.new.self.items c.in-Ok.sum c.loop-leaf.invariant.made c.in-Ok.ensures.value c.in_ok-push-in-Ok.ensures.items;
-      fit = fits_next sum_steps c.args.leaves.now c.loop-leaf.leaf-index c.leaf-item.result c.loop-leaf-test.true c.leaf-item.is c.loop-leaf.invariant.fit (one-fits (unfit Add c.leaf-item.result.one c.leaf-item.result.two) c.in-Ok.ensures.fits);
+      fit = fits_next sum_steps c.args.leaves.now c.loop-leaf.leaf-index c.leaf-item.result c.loop-leaf-test.true c.leaf-item.is c.loop-leaf.invariant.fit (one-fits (step_of Add c.leaf-item.result.one c.leaf-item.result.two) c.in-Ok.ensures.fits);
     }

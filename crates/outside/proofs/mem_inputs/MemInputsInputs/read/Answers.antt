@@ -8,4 +8,4 @@ pub returns-clause-bytes : goal.returns-clause-bytes
 returns-clause-bytes c =
     let n = c.copy_front-count.result in
     let same = ap (λ s. drop n (bytes_left s)) (c.self.view_is ∙ c.counts_failing-fails.ensures.counts) in
-    read_front (bytes_left c.args.self.now) c.args.buf.now c.copy_front-count.new.buf _ n (search rules) (search rules) (sym (drop-drop n c.self.inside.position _) ∙ same)
+    read_front (bytes_left c.args.self.now) c.args.buf.now c.copy_front-count.new.buf _ n (search rules) (search rules) (ap bytes_left c.count_end.ensures.others ∙ sym (drop-drop n c.self.inside.position _) ∙ same)

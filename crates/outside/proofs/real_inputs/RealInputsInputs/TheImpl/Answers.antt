@@ -20,7 +20,9 @@ select-tells g c = record {
   fails = c.ensures.fails;
   selects_nothing = c.ensures.selects_nothing;
   held = λ _. refl;
+  not_at_end = c.ensures.not_at_end;
   selections = c.ensures.selections;
+  ends = c.ensures.ends;
   counts = c.ensures.counts;
   other_count = c.ensures.other_count;
 }
@@ -35,7 +37,10 @@ read-tells g c = record {
   fails = c.ensures.fails;
   selects_nothing = c.ensures.selects_nothing;
   held = λ _. refl;
+  at_end = c.ensures.at_end;
+  not_at_end = c.ensures.not_at_end;
   selections = c.ensures.selections;
+  ends = c.ensures.ends;
   counts = c.ensures.counts;
   other_count = c.ensures.other_count;
 }

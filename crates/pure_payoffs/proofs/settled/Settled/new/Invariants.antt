@@ -1,6 +1,6 @@
 use Rattle.std.proofs.Common.{map}
 use Rattle.game_core.specs.TreeGame.{game_of_tree}
-use Rattle.pure_payoffs.specs.Settled.{HavePlaces}
+use Rattle.pure_payoffs.proofs.SettledPlaceLemmas.{HavePlaces}
 use Rattle.pure_payoffs.proofs.settled.Settled.new.Given as goal
 
 -- the places of the nodes so far

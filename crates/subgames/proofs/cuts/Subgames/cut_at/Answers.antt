@@ -6,7 +6,7 @@ use Rattle.game_core.specs.TreeGame.{game_of_tree}
 use Rattle.subgames.specs.CutParts.{AreSetNames, cut_set}
 use Rattle.subgames.specs.CutTrees.{IsCutAt}
 use Rattle.subgames.specs.FoundSubgames.{AreRootMarks}
-use Rattle.subgames.specs.MadeCuts.{given_at}
+use Rattle.subgames.specs.MadeCuts.{worth_at}
 use Rattle.subgames.proofs.CutListLemmas.{found-nodes}
 use Rattle.subgames.proofs.CutWalkLemmas.{AreCutNodes, nodes-within}
 use Rattle.subgames.proofs.CutValidLemmas.{cut_tree, names_within, sets_within}
@@ -112,6 +112,6 @@ returns c =
     c.new-title.result c.in_ok-players.players.items c.in_ok-new_nodes.new_nodes.items c.in_ok-new_sets.new_sets.items c.in_ok-outcomes.outcomes.items
     (c.new-title.ensures ∙ c.new.ensures.items) ((c.in_ok-players.ensures {u = tt}) ∙ ap (λ names. replicate (length names) []) c.players.ensures.players)
     (c.in_ok-new_nodes.ensures {u = tt} (are_nodes b).0 (are_nodes b).1.indices_are) (c.in_ok-new_sets.ensures {u = tt}) (c.in_ok-outcomes.ensures {u = tt}) in
-    let worth = given_at (length c.args.tree.now.players) c.args.worth.now in
+    let worth = worth_at (length c.args.tree.now.players) c.args.worth.now in
     let cut = subst (IsCutAt c.args.tree.now c.args.root worth c.as_slice-cut.result.now c.as_slice-whole.result.now) (made.1 ∙ sym (c.in_ok-tree.ensures {u = tt})) made.2 in
     subst₂ (λ nodes sets. IsCutAt c.args.tree.now c.args.root worth nodes sets c.in_ok-tree.tree) c.as_slice-cut.ensures.value c.as_slice-whole.ensures.value cut
