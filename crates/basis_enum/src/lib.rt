@@ -9,7 +9,7 @@
 //! levels are, `Bases` bases as numbers, `Enumeration` what a system answers; `linear_systems` says
 //! what vertices are.
 //! Private words: `specs::Children`, `Found`, `Marks`, `Merged`, `Next` and `Walks`.
-//! Lemmas for callers: `proofs::OneAnswerLaws`, that there is one answer; `CompleteLevelLaws` on
+//! Lemmas for callers: `proofs::OneAnswerLaws`, that there is one answer at most; `CompleteLevelLaws` on
 //! reached bases.
 //! A change here touches: `label_pairing`, `enummixed`, and the counts of `make`.
 #![tactic(auto)]
@@ -33,12 +33,12 @@ pub use enumeration::{enumerate, enumerate_with};
 pub use stop::{Basis, EnumerationStop};
 pub use vertex::{Vertex, Vertices};
 
-/// A system has one answer: its vertices, or why they are not listed.
+/// A system has one answer at most: its vertices, or why they are not listed.
 pub fn vertices_are_single()
     ensures { VerticesAreSingle }
 {}
 
-/// A system reaches its bases in one way: all of them, or one reason why not.
+/// What a system reaches is one thing at most: all its bases, or one reason why not.
 pub fn reached_are_single()
     ensures { ReachedAreSingle }
 {}

@@ -1,10 +1,9 @@
 -- The entries of behaviour, as they grow set by set and player by player.
-use Rattle.std.proofs.Common.{ℕ, zero, suc, ◌+◌, ◌-◌, ◌<◌, ◌≤◌, ◌≡◌, ◌≢◌, inl, inr, None, Some, List, [], ◌∷◌, ◌++◌, length, map, get_or, slice_get, take, refl, sym, ap, ap₂, ◌∙◌, subst, arith, add-one, append_assoc}
+use Rattle.std.proofs.Common.{ℕ, zero, suc, ◌+◌, ◌-◌, ◌<◌, ◌≤◌, ◌≡◌, inl, inr, Some, List, [], ◌∷◌, ◌++◌, length, map, get_or, slice_get, take, refl, sym, ap, ap₂, ◌∙◌, subst, arith, add-one, append_assoc}
 use Rattle.std.specs.List.{flat_map}
 use Rattle.std.proofs.lemmas.Grind.{flat_map-append}
-use Rattle.std.proofs.lemmas.Bool.{cases_lt}
 use Rattle.std.proofs.lemmas.List.{append-nil, take_all, take_more, get_or-map, length-map}
-use Rattle.std.proofs.lemmas.Option.{none-some, same_Some, slice_get-get_or, slice_get_within, get_or_from_slice_get}
+use Rattle.std.proofs.lemmas.Option.{same_Some, slice_get-get_or, slice_get_within, get_or_from_slice_get}
 use Rattle.game_theory.specs.TreeEntries.{own_entries, entries_below}
 use Rattle.game_theory.specs.OwnSets.{own_sets}
 use Rattle.game_theory.proofs.OwnSetLemmas.{IsAmong, AscendFrom, own_sets-tell, own_sets-ascend}
@@ -88,16 +87,13 @@ place-below_sets t i place l =
     let at = slice_get-get_or (own_sets t i) place 0 l in
     omega (arith, place-at_most 0 (own_sets t i) place _ (own_sets-ascend t i) at, own_set-below t i place _ at)
 
--- a place where no own set is found is past them
-pub place-found : (t : Tree) (i place : ℕ) → place < length (own_sets t i) → slice_get (own_sets t i) place ≢ None
-place-found t i place l none = none-some _ (sym none ∙ slice_get-get_or (own_sets t i) place 0 l)
+-- the own set that is read at a place
+pub own_set-read : (t : Tree) (i k : ℕ) (own : List ℕ) → own ≡ own_sets t i → k < length own → slice_get (own_sets t i) k ≡ Some (get_or own k 0)
+own_set-read t i k own are inside = ap (λ sets. slice_get sets k) (sym are) ∙ slice_get-get_or own k 0 inside
 
--- where no own set is found, all own sets stand before
-pub own_sets-before : (t : Tree) (i place : ℕ) → slice_get (own_sets t i) place ≡ None → take place (own_sets t i) ≡ own_sets t i
-own_sets-before t i place none = take_all place (own_sets t i) (elim (cases_lt place (length (own_sets t i))) [
-  | inl l ↦ absurd (place-found t i place l none)
-  | inr l ↦ l
-])
+-- where there is none, all own sets stand before
+pub own_sets-before : (t : Tree) (i k : ℕ) (own : List ℕ) → own ≡ own_sets t i → length own ≤ k → take k (own_sets t i) ≡ own_sets t i
+own_sets-before t i k own are past = take_all k (own_sets t i) (omega (arith, past, ap length are))
 
 -- how many actions a set that is read has
 pub actions-counted : (t : GameTree) (sets : List InformationSet) (set : InformationSet) (s : ℕ) → sets ≡ t.sets → s < length sets → set ≡ get_or sets s set → length set.actions ≡ (game_of_tree t).actions s

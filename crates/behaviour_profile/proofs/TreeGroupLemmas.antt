@@ -1,7 +1,6 @@
 -- A player's own sets as groups, and those of all players.
-use Rattle.std.proofs.Common.{ℕ, zero, suc, ◌+◌, ◌<◌, ◌≤◌, ◌≡◌, ◌^◌, inl, inr, Option, Some, None, Err, List, [], ◌∷◌, ◌++◌, All, length, map, get_or, slice_get, take, refl, sym, ap, ap₂, ◌∙◌, subst, add-one, arith, length-append, eq-or-lt_of_le, le_of_suc-le-suc}
+use Rattle.std.proofs.Common.{ℕ, zero, suc, ◌+◌, ◌<◌, ◌≤◌, ◌≡◌, ◌^◌, inl, inr, Some, Err, List, [], ◌∷◌, ◌++◌, All, length, map, get_or, slice_get, take, refl, sym, ap, ap₂, ◌∙◌, subst, add-one, arith, length-append, eq-or-lt_of_le, le_of_suc-le-suc}
 use Rattle.std.specs.Prelude.{option_map, sum}
-use Rattle.std.proofs.lemmas.Bool.{cases_lt}
 use Rattle.std.proofs.lemmas.List.{take_all, length-map, map-append}
 use Rattle.std.proofs.lemmas.Option.{slice_get-map}
 use Rattle.rational.specs.Rational.{ℚ}
@@ -14,23 +13,23 @@ use Rattle.strategy_lists.proofs.ActionCountLemmas.{actions-below}
 use Rattle.behaviour_profile.specs.declared.entries.ProfileFault.{ProfileFault}
 use Rattle.behaviour_profile.specs.EntryStarts.{sets_below}
 use Rattle.behaviour_profile.specs.EntryTests.{TestHolds, tests_from}
-use Rattle.behaviour_profile.proofs.BehaviourEntryLemmas.{actions-counted, own_set-below, place-found}
+use Rattle.behaviour_profile.proofs.BehaviourEntryLemmas.{actions-counted, own_set-below, own_set-read}
 use Rattle.behaviour_profile.proofs.FirstFaultLemmas.{tests_in}
 use Rattle.behaviour_profile.proofs.GroupListLemmas.{fault-longer, groups_fault, groups_pass, sum-append, sum-cons, sum-nil}
 use Rattle.lists.proofs.ElementLemmas.{made-next}
 
 -- the own set that is read at a place
-module _ (t : GameTree) (i k : ℕ) (read : Option ℕ) (is : read ≡ slice_get (own_sets (game_of_tree t) i) k) where
+module _ (t : GameTree) (i k : ℕ) (own : List ℕ) (are : own ≡ own_sets (game_of_tree t) i) where
   -- where there is none, all have been read
-  pub none-left : read ≡ None → take k (own_counts (game_of_tree t) i) ≡ own_counts (game_of_tree t) i
-  none-left none = take_all k (own_counts (game_of_tree t) i) (elim (cases_lt k (length (own_sets (game_of_tree t) i))) [
-    | inl l ↦ absurd (place-found (game_of_tree t) i k l (sym is ∙ none))
-    | inr l ↦ omega (arith, l, length-map (own_sets (game_of_tree t) i) (game_of_tree t).actions)
-  ])
+  pub none-left : length own ≤ k → take k (own_counts (game_of_tree t) i) ≡ own_counts (game_of_tree t) i
+  none-left past = take_all k (own_counts (game_of_tree t) i) (omega (arith, past, ap length are, length-map (own_sets (game_of_tree t) i) (game_of_tree t).actions))
 
-  module _ (s : ℕ) (some : read ≡ Some s) where
+  module _ (inside : k < length own) where
+    abbrev s : ℕ
+    s = get_or own k 0
+
     at : slice_get (own_sets (game_of_tree t) i) k ≡ Some s
-    at = sym is ∙ some
+    at = own_set-read (game_of_tree t) i k own are inside
 
     pub set-below : s < length t.sets
     set-below = own_set-below (game_of_tree t) i k s at

@@ -1,4 +1,5 @@
--- Entries of behaviour, and where those of each player's set begin.
+-- Entries of behaviour, and the places among them at which those of each player's set begin; at a
+-- set of chance stands 0.
 use Rattle.std.specs.Prelude.{ℕ, ◌<◌, ◌≡◌, List, length, map, slice_index, sum, take, None}
 use Rattle.std.specs.List.{flat_map, range_with_len}
 use Rattle.rational.specs.Rational.{ℚ}

@@ -99,10 +99,8 @@ fn left_by(tree: &Tree, player: u32, count: usize) -> Option<usize>
         MatchOption result (count < own) (λ left. left + own ≡ count) }
 {
     let mut left = count;
-    let mut number = 0;
-    while let Some(set) = tree.own_sets(player, number) {
-        left = left.checked_sub(tree.sets()[set as usize].actions().len())?;
-        number += 1;
+    for set in tree.sets_of(player) {
+        left = left.checked_sub(tree.sets()[*set as usize].actions().len())?;
     }
     Some(left)
 }
@@ -142,16 +140,16 @@ fn test_player(
         (map_ok result (λ _. tt)) }
 {
     let mut here = place;
-    let mut number = 0;
-    while let Some(set) = tree.own_sets(player, number) {
-        let count = tree.sets()[set as usize].actions().len() as u32;
-        test_group(entries, here, group + number, count)?;
+    let mut number = group;
+    for set in tree.sets_of(player) {
+        let count = tree.sets()[*set as usize].actions().len() as u32;
+        test_group(entries, here, number, count)?;
         here += count;
         number += 1;
     }
     Ok(Position {
         place: here,
-        group: group + number,
+        group: number,
     })
 }
 
@@ -189,7 +187,7 @@ impl Behaviour {
     }
 }
 
-/// Entries are all right in one way, or one thing is wrong with them first.
+/// Entries have at most one answer: that they are all right, or what is wrong with them first.
 pub fn profiles_are_single()
     ensures { (sizes : List ℕ) (entries : List ℚ) → IsSingle (profile_in sizes entries) }
 {}

@@ -62,7 +62,15 @@ impl Model for Behaviour {
 }
 
 impl Behaviour {
-    ghost use Rattle.std.specs.Prelude.{◌≡◌};
+    ghost use Rattle.std.specs.Prelude.{◌≡◌, slice_get};
+
+    /// The entry at a place, from 0; nothing exactly past the end. Takes no memory.
+    pub fn entry(&self, place: u32) -> Option<Frac>
+        ensures { result ≡ slice_get self.now place }
+    {
+        let entry = self.entries.get(place as usize)?;
+        Some(*entry)
+    }
 
     /// All entries.
     pub fn entries(&self) -> &[Frac]
@@ -110,11 +118,11 @@ fn push_player(
         (pure (first_for_none (game_of_tree tree.now) player strategy.now)) player) }
 {
     let sets = tree.sets();
+    let own = tree.sets_of(player);
     for place in 0..strategy.len() {
-        if let Some(set) = tree.own_sets(player, place as u32) {
-            let chosen = (strategy[place] as usize).saturating_sub(1);
-            push_sure(entries, sets[set as usize].actions().len(), chosen)?;
-        }
+        let set = own[place] as usize;
+        let chosen = (strategy[place] as usize).saturating_sub(1);
+        push_sure(entries, sets[set].actions().len(), chosen)?;
     }
     Ok(())
 }

@@ -23,10 +23,8 @@ fn push_lists(
         (listed_behaviour (map (λ v. v.items) lists.now)) player) }
 {
     stands_for_game_tree(tree);
-    let mut number = 0;
-    while let Some(set) = tree.own_sets(player, number) {
-        entries.extend_from_slice(lists[set as usize].as_slice())?;
-        number += 1;
+    for set in tree.sets_of(player) {
+        entries.extend_from_slice(lists[*set as usize].as_slice())?;
     }
     Ok(())
 }

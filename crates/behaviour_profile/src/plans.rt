@@ -112,10 +112,9 @@ fn label(tree: &Tree, player: u32, place: u32) -> u64
     ensures { let sets = own_sets (game_of_tree tree.now) player in
         result ≡ label_of tree.now (slice_index sets place) }
 {
-    match tree.own_sets(player, place) {
-        Some(set) => tree.sets()[set as usize].label(),
-        None => 0,
-    }
+    let own = tree.sets_of(player);
+    let set = own[place as usize] as usize;
+    tree.sets()[set].label()
 }
 
 // Adds the entries of a player's plan.
@@ -171,7 +170,8 @@ impl Behaviour {
     }
 }
 
-/// Two lists of weights have one behaviour, or one first quotient that does not fit.
+/// Two lists of weights have at most one answer: their behaviour, or the first quotient that does not
+/// fit.
 pub fn plan_behaviours_are_single()
     ensures { (t : GameTree) (one two : List ℚ) → IsSingle (plan_behaviour t one two) }
 {}

@@ -23,11 +23,9 @@ fn write_starts(tree: &Tree, player: u32, starts: &mut [usize], first: usize) ->
 {
     stands_for_game_tree(tree);
     let mut next = first;
-    let mut place = 0;
-    while let Some(set) = tree.own_sets(player, place) {
-        starts[set as usize] = next;
-        next += action_count(tree, set as usize);
-        place += 1;
+    for set in tree.sets_of(player) {
+        starts[*set as usize] = next;
+        next += action_count(tree, *set as usize);
     }
     next
 }

@@ -1,4 +1,4 @@
--- The profiles of a table's cells, where the others play a choice, and their numbers.
+-- The profiles of a table's cells, where the others play a profile, and their numbers.
 use Rattle.std.proofs.Common.{ℕ, zero, suc, ◌++◌, map, refl, ap₂, cond, not, ◌&&◌, ◌==◌, eq-eqb, ◌∷◌, take, ◌+◌, ◌*◌, ◌<◌, ◌≤◌, ◌≡◌, ◌≢◌, ◌⊎◌, inl, inr, List, [], length, get_or, set, All, sym, ap, ◌∙◌, subst, arith}
 use Rattle.std.specs.Prelude.{slice_get, Some}
 use Rattle.std.specs.List.{filter, range_with_len}
@@ -23,7 +23,7 @@ pub other_players-below : (n row column : ℕ) → All (λ i. i < n) (other_play
 other_players-below n row column =
     All-filter _ (λ i. i < n) (range_with_len 0 n) (λ k d l. omega (arith, length-range_with_len 0 n, get_or-range_with_len 0 n k d))
 
--- two players of a table, and a choice of the others
+-- two players of a table, and a profile of the others
 pub record AreAxes (t : GameTable) (row column : ℕ) : Type 0 where
   pub valid : IsTable t
   pub row_in : row < length t.players
@@ -45,14 +45,14 @@ positive_still ns j i l p = go (cases_eq i j)
     go (inl e) = subst (λ v. 0 < get_or (set ns j 1) v 0) (sym e) (omega (arith, get_or-set_same ns j 1 0 l))
     go (inr e) = omega (arith, get_or-set_other ns j i 1 0 e)
 
--- a choice of the others is a profile, in which the row player and the column player play 0
-pub record IsChoice (t : GameTable) (row column : ℕ) (choice : List ℕ) : Type 0 where
-  pub profile : IsProfile (strategy_counts t) choice
-  pub row_zero : get_or choice row 0 ≡ 0
-  pub column_zero : get_or choice column 0 ≡ 0
+-- a profile of the others is a profile, in which the row player and the column player play 0
+pub record IsOthersProfile (t : GameTable) (row column : ℕ) (profile : List ℕ) : Type 0 where
+  pub is_profile : IsProfile (strategy_counts t) profile
+  pub row_zero : get_or profile row 0 ≡ 0
+  pub column_zero : get_or profile column 0 ≡ 0
 
-pub IsChoice-profile : (t : GameTable) (row column : ℕ) (choice : List ℕ) → AreAxes t row column → IsProfile (others_counts t row column) choice → IsChoice t row column choice
-IsChoice-profile t row column choice h is =
+pub IsOthersProfile-profile : (t : GameTable) (row column : ℕ) (profile : List ℕ) → AreAxes t row column → IsProfile (others_counts t row column) profile → IsOthersProfile t row column profile
+IsOthersProfile-profile t row column profile h is =
     let ns = strategy_counts t in
     let once = set ns row 1 in
     let twice = set once column 1 in
@@ -62,53 +62,53 @@ IsChoice-profile t row column choice h is =
     let row_in : row < length ns = omega (arith, long, h.row_in) in
     let column_in : column < length ns = omega (arith, long, h.column_in) in
     let some : (i : ℕ) → i < length ns → 0 < get_or ns i 0 = (HaveStrategies-table t h.valid).some in
-    let below : (i : ℕ) → i < length ns → get_or choice i 0 < get_or twice i 0 = λ i l. profile-below twice choice i is (omega (arith, long_twice)) in
+    let below : (i : ℕ) → i < length ns → get_or profile i 0 < get_or twice i 0 = λ i l. profile-below twice profile i is (omega (arith, long_twice)) in
     record {
-      profile = IsProfile-by_index ns choice (length-profile twice choice is ∙ long_twice) (λ i l. omega (arith, below i l, lowered once column i (omega arith) (positive_still ns row column row_in (some column column_in)), lowered ns row i row_in (some row row_in)));
+      is_profile = IsProfile-by_index ns profile (length-profile twice profile is ∙ long_twice) (λ i l. omega (arith, below i l, lowered once column i (omega arith) (positive_still ns row column row_in (some column column_in)), lowered ns row i row_in (some row row_in)));
       row_zero = omega (arith, below row row_in, get_or-set_other once column row 1 0 h.apart, get_or-set_same ns row 1 0 row_in);
       column_zero = let l : column < length once = omega arith in omega (arith, below column column_in, get_or-set_same once column 1 0 l);
     }
 
 -- The cells of row r: where they stand among the profiles.
-pub record AreCells (t : GameTable) (row column : ℕ) (choice : List ℕ) (r first : ℕ) : Type 0 where
-  pub numbers : (c : ℕ) → c < strategy_count t column → cell_number t row column choice r c ≡ first + stride (strategy_counts t) column * c
+pub record AreCells (t : GameTable) (row column : ℕ) (profile : List ℕ) (r first : ℕ) : Type 0 where
+  pub numbers : (c : ℕ) → c < strategy_count t column → cell_number t row column profile r c ≡ first + stride (strategy_counts t) column * c
   pub below : (c : ℕ) → c < strategy_count t column → first + stride (strategy_counts t) column * c < profile_count (strategy_counts t)
 
 -- the row's first cell
-pub first_cell : (t : GameTable) (row column : ℕ) (choice : List ℕ) (r : ℕ) → AreAxes t row column → IsChoice t row column choice → r < strategy_count t row → number_of (strategy_counts t) (set choice row r) ≡ number_of (strategy_counts t) choice + stride (strategy_counts t) row * r
-first_cell t row column choice r h is l =
+pub first_cell : (t : GameTable) (row column : ℕ) (profile : List ℕ) (r : ℕ) → AreAxes t row column → IsOthersProfile t row column profile → r < strategy_count t row → number_of (strategy_counts t) (set profile row r) ≡ number_of (strategy_counts t) profile + stride (strategy_counts t) row * r
+first_cell t row column profile r h is l =
     let ns = strategy_counts t in
     let row_in : row < length ns = omega (arith, length-strategy_counts t h.valid, h.row_in) in
-    let zero_there : stride ns row * get_or choice row 0 ≡ 0 = ap (λ v. stride ns row * v) is.row_zero ∙ omega arith in
-    number_of-exchange_from ns choice row r (number_of ns choice) is.profile row_in (omega arith)
+    let zero_there : stride ns row * get_or profile row 0 ≡ 0 = ap (λ v. stride ns row * v) is.row_zero ∙ omega arith in
+    number_of-exchange_from ns profile row r (number_of ns profile) is.is_profile row_in (omega arith)
 
 -- the row's first cell is one of few
-pub first_few : (t : GameTable) (row column : ℕ) (choice : List ℕ) (r : ℕ) → AreAxes t row column → IsChoice t row column choice → r < strategy_count t row → number_of (strategy_counts t) choice + stride (strategy_counts t) row * r ≤ most_payoffs
-first_few t row column choice r h is l =
+pub first_few : (t : GameTable) (row column : ℕ) (profile : List ℕ) (r : ℕ) → AreAxes t row column → IsOthersProfile t row column profile → r < strategy_count t row → number_of (strategy_counts t) profile + stride (strategy_counts t) row * r ≤ most_payoffs
+first_few t row column profile r h is l =
     let ns = strategy_counts t in
     let row_in : row < length ns = omega (arith, length-strategy_counts t h.valid, h.row_in) in
-    let below : number_of ns (set choice row r) < profile_count ns = number_of-below ns (set choice row r) (IsProfile-exchange ns choice row r is.profile row_in l) in
-    omega (arith, first_cell t row column choice r h is l, profile_count-table t h.valid)
+    let below : number_of ns (set profile row r) < profile_count ns = number_of-below ns (set profile row r) (IsProfile-exchange ns profile row r is.is_profile row_in l) in
+    omega (arith, first_cell t row column profile r h is l, profile_count-table t h.valid)
 
-pub AreCells-row : (t : GameTable) (row column : ℕ) (choice : List ℕ) (r : ℕ) → AreAxes t row column → IsChoice t row column choice → r < strategy_count t row → AreCells t row column choice r (number_of (strategy_counts t) choice + stride (strategy_counts t) row * r)
-AreCells-row t row column choice r h is l =
+pub AreCells-row : (t : GameTable) (row column : ℕ) (profile : List ℕ) (r : ℕ) → AreAxes t row column → IsOthersProfile t row column profile → r < strategy_count t row → AreCells t row column profile r (number_of (strategy_counts t) profile + stride (strategy_counts t) row * r)
+AreCells-row t row column profile r h is l =
     let ns = strategy_counts t in
-    let s = set choice row r in
-    let first = number_of ns choice + stride ns row * r in
+    let s = set profile row r in
+    let first = number_of ns profile + stride ns row * r in
     let row_in : row < length ns = omega (arith, length-strategy_counts t h.valid, h.row_in) in
     let column_in : column < length ns = omega (arith, length-strategy_counts t h.valid, h.column_in) in
-    let in_row : IsProfile ns s = IsProfile-exchange ns choice row r is.profile row_in l in
+    let in_row : IsProfile ns s = IsProfile-exchange ns profile row r is.is_profile row_in l in
     let other : column ≢ row = λ e. h.apart (sym e) in
-    let there : get_or s column 0 ≡ 0 = get_or-set_other choice row column r 0 other ∙ is.column_zero in
+    let there : get_or s column 0 ≡ 0 = get_or-set_other profile row column r 0 other ∙ is.column_zero in
     let zero_there : stride ns column * get_or s column 0 ≡ 0 = ap (λ v. stride ns column * v) there ∙ omega arith in
-    let start : first + stride ns column * get_or s column 0 ≡ number_of ns s = omega (arith, first_cell t row column choice r h is l) in
+    let start : first + stride ns column * get_or s column 0 ≡ number_of ns s = omega (arith, first_cell t row column profile r h is l) in
     let at : (c : ℕ) → number_of ns (set s column c) ≡ first + stride ns column * c = λ c. number_of-exchange_from ns s column c first in_row column_in start in
     record {
       numbers = λ c b. at c;
       below = λ c b. subst (λ v. v < profile_count ns) (at c) (number_of-below ns (set s column c) (IsProfile-exchange ns s column c in_row column_in b));
     }
 
--- ---- the choices of the others
+-- ---- the profiles of the others
 -- players who choose nothing make no more profiles
 profile_count-lowered : (ns : List ℕ) (i : ℕ) → All (λ n. 0 < n) ns → profile_count (set ns i 1) ≤ profile_count ns
 profile_count-lowered [] i h = omega arith
@@ -120,7 +120,7 @@ count_few : (ns : List ℕ) (k : ℕ) → All (λ n. 0 < n) ns → k < length ns
 count_few ns k h l =
     omega (arith, at_most_product (profile_count (take k ns)) (get_or ns k 0) (profile_count-positive (take k ns) (All-take (λ n. 0 < n) k ns h)), profile_count-next ns k l, profile_count-front (k + 1) ns h)
 
--- The numbers of choices are few, and positive.
+-- The numbers of profiles are few, and positive.
 pub record AreFewCounts (ns : List ℕ) : Type 0 where
   pub profiles : profile_count ns ≤ most_payoffs
   pub few : All (λ n. n ≤ most_payoffs) ns

@@ -1,4 +1,4 @@
--- A table is answered in one way.
+-- A table has at most one answer.
 use Rattle.std.proofs.Common.{ℕ, ◌-◌, ◌≡◌}
 use Rattle.answers.specs.Answers.{◌>>◌, refuse_where, refused_by, IsSingle}
 use Rattle.answers.proofs.AnswerLemmas.{bind-single, refuse_where-single, refused_by-single}
@@ -10,7 +10,7 @@ use Rattle.convert_tables.specs.declared.stops.ConvertStop.TheVariants as stops
 use Rattle.convert_tables.specs.Layouts.{layout}
 use Rattle.convert_tables.specs.Converted.{IsPlayer, laid_out}
 
--- a table has one layout, or one reason why there is none
+-- a table has at most one answer: the layout, or why there is none
 pub laid_out-single : (style : Style) (t : GameTable) (row column : ℕ) → IsSingle (laid_out style t row column)
 laid_out-single style t row column =
     let text = layout style t (row - 1) (column - 1) in

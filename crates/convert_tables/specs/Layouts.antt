@@ -21,10 +21,10 @@ other_players players row column =
 abbrev pub others_counts : GameTable → ℕ → ℕ → List ℕ
 others_counts t row column = slice_set (slice_set (strategy_counts t) row 1) column 1
 
--- the choice of the others with a number: the strategies of all players, 0 for the row player and the
+-- the profile of the others with a number: the strategies of all players, 0 for the row player and the
 -- column player
-abbrev pub others_choice : GameTable → ℕ → ℕ → ℕ → List ℕ
-others_choice t row column k = profile_at (others_counts t row column) k
+abbrev pub others_profile : GameTable → ℕ → ℕ → ℕ → List ℕ
+others_profile t row column k = profile_at (others_counts t row column) k
 
 -- how many strategies a player has
 abbrev pub strategy_count : GameTable → ℕ → ℕ
@@ -61,15 +61,15 @@ abbrev pub cell_text : Style → GameTable → ℕ → ℕ → ℕ → List ℕ
 cell_text style t row column number =
     mark_text style CellStart ++ payoffs_text t row column number ++ mark_text style CellEnd
 
--- the number of the profile in row r and column c, where the others play a choice
+-- the number of the profile in row r and column c, where the others play a profile
 abbrev pub cell_number : GameTable → ℕ → ℕ → List ℕ → ℕ → ℕ → ℕ
-cell_number t row column choice r c =
-    number_of (strategy_counts t) (slice_set (slice_set choice row r) column c)
+cell_number t row column profile r c =
+    number_of (strategy_counts t) (slice_set (slice_set profile row r) column c)
 
 -- the cells of row r, column by column
 abbrev pub cells_text : Style → GameTable → ℕ → ℕ → List ℕ → ℕ → List ℕ
-cells_text style t row column choice r =
-    flat_map (λ c. cell_text style t row column (cell_number t row column choice r c))
+cells_text style t row column profile r =
+    flat_map (λ c. cell_text style t row column (cell_number t row column profile r c))
     (range_with_len 0 (strategy_count t column))
 
 -- what ends row r of so many rows
@@ -78,15 +78,15 @@ row_end style rows r = mark_text style (if suc r == rows then LastRowEnd else Ro
 
 -- row r: the strategy's name and the cells
 abbrev pub row_text : Style → GameTable → ℕ → ℕ → List ℕ → ℕ → List ℕ
-row_text style t row column choice r =
+row_text style t row column profile r =
     marked_text style RowStart (strategy_name t row r) RowNameEnd
-    ++ cells_text style t row column choice r
+    ++ cells_text style t row column profile r
     ++ row_end style (strategy_count t row) r
 
 -- all rows, in order
 abbrev pub rows_text : Style → GameTable → ℕ → ℕ → List ℕ → List ℕ
-rows_text style t row column choice =
-    flat_map (row_text style t row column choice) (range_with_len 0 (strategy_count t row))
+rows_text style t row column profile =
+    flat_map (row_text style t row column profile) (range_with_len 0 (strategy_count t row))
 
 -- the name of one of the column player's strategies, as the head of its column
 abbrev pub column_text : Style → List ℕ → List ℕ
@@ -113,27 +113,27 @@ columns_text style t row column =
 
 -- a player and the strategy that is chosen
 abbrev pub chosen_text : Style → GameTable → List ℕ → ℕ → List ℕ
-chosen_text style t choice i =
+chosen_text style t profile i =
     name_text style (player_name t i) ++ codes "="
-    ++ name_text style (strategy_name t i (slice_index choice i))
+    ++ name_text style (strategy_name t i (slice_index profile i))
 
 -- the same after another player
 abbrev pub later_chosen_text : Style → GameTable → List ℕ → ℕ → List ℕ
-later_chosen_text style t choice i = codes ", " ++ chosen_text style t choice i
+later_chosen_text style t profile i = codes ", " ++ chosen_text style t profile i
 
--- the heading with the choice of the others, where there are any
+-- the heading with the profile of the others, where there are any
 abbrev pub heading : Style → GameTable → List ℕ → List ℕ → List ℕ
-heading style t choice [] = []
-heading style t choice (i ∷ rest) =
-    mark_text style HeadingStart ++ chosen_text style t choice i
-    ++ flat_map (later_chosen_text style t choice) rest ++ mark_text style HeadingEnd
+heading style t profile [] = []
+heading style t profile (i ∷ rest) =
+    mark_text style HeadingStart ++ chosen_text style t profile i
+    ++ flat_map (later_chosen_text style t profile) rest ++ mark_text style HeadingEnd
 
--- the table in which the others play a choice
+-- the table in which the others play a profile
 abbrev pub table_text : Style → GameTable → ℕ → ℕ → List ℕ → List ℕ
-table_text style t row column choice =
-    heading style t choice (other_players (length t.players) row column)
+table_text style t row column profile =
+    heading style t profile (other_players (length t.players) row column)
     ++ columns_text style t row column
-    ++ rows_text style t row column choice
+    ++ rows_text style t row column profile
     ++ mark_text style TableEnd
 
 -- the game's title, which stands in HTML alone
@@ -141,12 +141,12 @@ abbrev pub title_text : Style → List ℕ → List ℕ
 title_text Html title = codes "<h1>" ++ name_text Html title ++ codes "</h1>\n"
 title_text Sgame title = []
 
--- the tables of all choices of the others, in order
+-- the tables of all profiles of the others, in order
 abbrev pub tables_text : Style → GameTable → ℕ → ℕ → List ℕ
 tables_text style t row column =
-    flat_map (λ k. table_text style t row column (others_choice t row column k))
+    flat_map (λ k. table_text style t row column (others_profile t row column k))
     (range_with_len 0 (profile_count (others_counts t row column)))
 
--- the title, and a table for each choice of the others, the first of whom changes fastest
+-- the title, and a table for each profile of the others, the first of whom changes fastest
 abbrev pub layout : Style → GameTable → ℕ → ℕ → List ℕ
 layout style t row column = title_text style t.title ++ tables_text style t row column

@@ -115,23 +115,23 @@ fn row_end(style: Style, rows: usize, strategy: usize) -> &'static [u8]
     }
 }
 
-// Adds the row of a strategy, where the others play a choice.
+// Adds the row of a strategy, where the others play a profile.
 fn push_row(
     alloc: Global,
     text: &mut Vec<u8>,
     axes: &Axes,
-    choice: &[u32],
+    profile: &[u32],
     strategy: usize,
 ) -> Result<(), Memory>
-    requires choice { IsProfile (others_counts axes.now.table.now axes.now.row axes.now.column)
-        choice.now }
+    requires profile { IsProfile (others_counts axes.now.table.now axes.now.row axes.now.column)
+        profile.now }
     requires strategy { strategy < strategy_count axes.now.table.now axes.now.row }
     ensures { OnOk result (text.new.items ≡ text.old.items
-        ++ row_text axes.now.style axes.now.table.now axes.now.row axes.now.column choice.now
+        ++ row_text axes.now.style axes.now.table.now axes.now.row axes.now.column profile.now
         strategy) }
 {
     let names = axes.table.strategies(axes.row);
-    let first = axes.table.profile_number(choice) + axes.row_stride * strategy;
+    let first = axes.table.profile_number(profile) + axes.row_stride * strategy;
     let name = names[strategy].bytes();
     push_marked(text, axes.style, Mark::RowStart, name, Mark::RowNameEnd)?;
     push_cells(alloc, text, axes, first)?;
@@ -139,23 +139,23 @@ fn push_row(
     Ok(())
 }
 
-/// Adds the rows of the table in which the others play a choice, and stops after the first row at
+/// Adds the rows of the table in which the others play a profile, and stops after the first row at
 /// which the text has too many bytes.
 pub fn push_rows(
     alloc: Global,
     text: &mut Vec<u8>,
     axes: &Axes,
-    choice: &[u32],
+    profile: &[u32],
 ) -> Result<(), LayoutStop>
-    requires choice { IsProfile (others_counts axes.now.table.now axes.now.row axes.now.column)
-        choice.now }
+    requires profile { IsProfile (others_counts axes.now.table.now axes.now.row axes.now.column)
+        profile.now }
     ensures rows { OnOk result (text.new.items ≡ text.old.items
-        ++ rows_text axes.now.style axes.now.table.now axes.now.row axes.now.column choice.now) }
+        ++ rows_text axes.now.style axes.now.table.now axes.now.row axes.now.column profile.now) }
     ensures long { IsErrOf result LayoutStop.TooLong → most_text < length (text.old.items
-        ++ rows_text axes.now.style axes.now.table.now axes.now.row axes.now.column choice.now) }
+        ++ rows_text axes.now.style axes.now.table.now axes.now.row axes.now.column profile.now) }
 {
     for strategy in 0..axes.table.strategy_count(axes.row) {
-        push_row(alloc, text, axes, choice, strategy)?;
+        push_row(alloc, text, axes, profile, strategy)?;
         if text.len() > MOST_TEXT {
             return Err(LayoutStop::TooLong);
         }

@@ -11,10 +11,10 @@ ghost use Rattle.convert_tables.specs.Converted.{IsPlayer, laid_out, html_text, 
 ghost use Rattle.convert_tables.specs.declared.stops.ConvertStop.TheVariants as stops;
 
 use crate::cells::Axes;
-use crate::choices::push_tables;
 use crate::marks::Style;
 use crate::names::push_name;
 use crate::stops::{ConvertStop, LayoutStop};
+use crate::tables::push_tables;
 use frac128::Memory;
 use game_core::{MOST_TEXT, Table};
 use std::alloc::Global;
@@ -82,7 +82,7 @@ fn write_layout(
 {
     let mut counts = table.strategy_counts(alloc)?;
     let others = other_players(alloc, table.players().len(), row, column)?;
-    let mut choice = zeros(alloc, counts.len())?;
+    let mut profile = zeros(alloc, counts.len())?;
     let axes = Axes {
         style,
         table,
@@ -96,7 +96,7 @@ fn write_layout(
     counts[column] = 1;
     let mut text = Vec::new(alloc);
     push_title(&mut text, style, table.title().bytes())?;
-    push_tables(alloc, &mut text, &axes, &counts, &mut choice)?;
+    push_tables(alloc, &mut text, &axes, &counts, &mut profile)?;
     if text.len() > MOST_TEXT {
         return Err(LayoutStop::TooLong);
     }
@@ -134,7 +134,7 @@ fn lay_out(
 }
 
 /// The table as a web page's: the title, and a table whose rows and columns are the strategies of
-/// two players, counted from 1; with more players one for each choice of the others, under a
+/// two players, counted from 1; with more players one for each profile of the others, under a
 /// heading that names it. A cell has the payoffs of the row player, the column player and the
 /// others in order.
 ///
@@ -161,7 +161,7 @@ pub fn sgame(alloc: Global, table: &Table, row: u32, column: u32) -> Result<Vec<
     lay_out(alloc, Style::Sgame, table, row, column)
 }
 
-/// A table has one such text of each kind, or one reason why there is none.
+/// A table has at most one answer of each kind: the text, or why there is none.
 pub fn layouts_are_single()
     ensures html { (table : GameTable) (row column : ℕ) → IsSingle (html_text table row column) }
     ensures sgame { (table : GameTable) (row column : ℕ) → IsSingle (sgame_text table row column) }

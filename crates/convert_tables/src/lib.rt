@@ -4,16 +4,16 @@
 //! wrong, or that the text is too long; `layouts_are_single`.
 //! Definitions: `specs::Layouts` has the layouts, made of `Marks` and `Names`; `specs::Converted`
 //! what is answered; `specs::Examples` the prisoners' dilemma laid out.
-//! Lemmas for callers: `proofs::OneLayoutLaws`, that a table is answered in one way.
+//! Lemmas for callers: `proofs::OneLayoutLaws`, that a table has at most one answer.
 //! A change here touches: the text of `convert`, byte for byte, and its refusals.
 #![tactic(auto)]
 
 mod cells;
-mod choices;
 mod convert;
 mod marks;
 mod names;
 mod stops;
+mod tables;
 
 pub use convert::{html, layouts_are_single, prisoners_dilemma_is_laid_out, sgame};
 pub use stops::ConvertStop;

@@ -14,7 +14,7 @@ pub enum Style {
 /// What stands around a part of a layout.
 #[derive(Clone, Copy, Debug, PartialEq, Eq)]
 pub enum Mark {
-    /// Before the other players' choice.
+    /// Before the other players' strategies.
     HeadingStart,
     /// After it.
     HeadingEnd,

@@ -1,5 +1,5 @@
 -- How reading a file ends.
-use Rattle.std.proofs.Common.{◌≡◌, ℕ, zero, suc, ◌<◌, ◌^◌, inl, inr, List, [], ◌∷◌, length, map, Result, Ok, Err, ◌⊎◌, refl, sym, ap, ◌∙◌, subst, arith}
+use Rattle.std.proofs.Common.{◌≡◌, ℕ, zero, suc, ◌<◌, ◌^◌, inl, inr, List, [], ◌∷◌, length, map, Result, Ok, Err, refl, sym, ap, ◌∙◌, subst, arith}
 use Rattle.std.proofs.lemmas.List.{length-map}
 use Rattle.std.specs.Prelude.{IfOk, IfErr}
 use Rattle.std.specs.List.{AllByRecursion}
@@ -23,11 +23,9 @@ use Rattle.efg_reader.specs.States.{IsStop}
 use Rattle.efg_reader.specs.Stops.{IsPassed, IsEfgStop, kind_in_nodes, IsNodesStop, tree_in}
 use Rattle.tree_grammar.specs.TreeFile.{IsTreeFile, PassesLimit}
 use Rattle.tree_grammar.specs.TreeParsing.{FrontPart, parse_front, parse_all_nodes, in_nodes, parse_tree}
-use Rattle.tree_grammar.specs.TreeFaults.{IsFile}
-use Rattle.tree_grammar.specs.FaultKinds.{IsFault}
 use Rattle.tree_grammar.proofs.FileLaws.{read_is_file, met_is_passed, no_front_is_nothing, no_nodes_are_nothing, one_tree, not_passed, one_limit}
 use Rattle.tree_grammar.proofs.WholeFileLaws.{few_players}
-use Rattle.tree_grammar.proofs.FaultLaws.{stop_is_fault, file_is_faultless, fault_or_file, one_fault}
+use Rattle.tree_faults.proofs.FaultLaws.{stop_is_fault, one_fault_at, no_fault_of_file}
 use Rattle.game_core.specs.TokenList.{TokenList, bare}
 use Rattle.game_core.specs.declared.token.Spanned.{Spanned}
 use Rattle.game_core.specs.declared.token.Token.{Token}
@@ -111,24 +109,6 @@ read_tree list x partial few e f = (read_file list x partial few e f).describe.p
 pub made_tree : (result : Result GameTree EfgStop) (tokens : TokenList) (tree : GameTree) → IfOk result (λ t. t ≡ tree) → IfErr result (λ stop. stop ≡ stops.Memory) → IsTreeFile (bare tokens.list) tree → Gives stops.Memory (tree_in tokens) result
 made_tree (Ok t) tokens tree e m f = subst (IsTreeFile (bare tokens.list)) (sym e) f
 made_tree (Err stop) tokens tree e m f = inl m
-
--- ---- faults of a source
--- at most one
-pub one_fault_at : (tokens : TokenList) (kind other : EfgKind) (at place : ℕ) → IsFault tokens kind at → IsFault tokens other place → (kind ≡ other) × (at ≡ place)
-one_fault_at tokens kind other at place f g =
-    let same = one_fault (bare tokens.list) kind other f.0 g.0 f.1 g.1 in
-    (same.0, f.2 ∙ ap (λ (q : List Token). offset_of tokens (length q)) same.1 ∙ sym g.2)
-
--- none of a file
-pub no_fault_of_file : (tokens : TokenList) (kind : EfgKind) (at : ℕ) → IsFile (bare tokens.list) → IsFault tokens kind at → ⊥
-no_fault_of_file tokens kind at file f = file_is_faultless (bare tokens.list) kind f.0 file f.1
-
--- one of any other
-pub fault_of_others : (tokens : TokenList) → length tokens.list < 2 ^ 32 → IsFile (bare tokens.list) ⊎ ((kind : EfgKind) × (at : ℕ) × IsFault tokens kind at)
-fault_of_others tokens few = elim (fault_or_file (bare tokens.list) (rw (length-map tokens.list (λ s. s.token)) few)) [
-  | inl f ↦ inl f
-  | inr f ↦ inr (f.0, offset_of tokens (length f.1), (f.1, f.2, refl))
-]
 
 -- ---- one answer
 -- a limit of trees that is passed is one of these

@@ -9,7 +9,7 @@ use Rattle.game_core.specs.declared.too_large.What.TheVariants.{Nodes, Depth}
 use Rattle.game_core.specs.TokenList.{TokenList, bare}
 use Rattle.game_core.specs.declared.token.Token.{Token}
 use Rattle.tree_grammar.specs.TreeFile.{IsTreeFile, PassesLimit}
-use Rattle.tree_grammar.specs.FaultKinds.{IsFault}
+use Rattle.tree_faults.specs.FaultKinds.{IsFault}
 use Rattle.tree_grammar.specs.declared.kinds.EfgKind.{EfgKind}
 use Rattle.tree_grammar.specs.declared.kinds.EfgKind.TheVariants.{Unfinished}
 use Rattle.file_parts.specs.Reading.{offset_of}

@@ -28,9 +28,9 @@ pub struct Branching {
     pub depth: u32,
 }
 
-/// What a node says of the choice that is made there.
+/// The set that a node uses, and who chooses there.
 #[derive(Clone, Copy, Debug, PartialEq, Eq)]
-pub struct Choice {
+pub struct UsedSet {
     /// Who chooses.
     pub kind: Kind,
     /// The number of the information set, and nothing at an end.
@@ -124,12 +124,12 @@ fn add_branches(
 }
 
 impl Nodes {
-    /// These nodes with one more at the first open branch, with this choice and this outcome.
-    pub fn add(self, sets: &Sets, choice: Choice, outcome: Option<u32>) -> Result<Nodes, AllocError>
+    /// These nodes with one more at the first open branch, with this set and this outcome.
+    pub fn add(self, sets: &Sets, used: UsedSet, outcome: Option<u32>) -> Result<Nodes, AllocError>
         requires free { self.branchings ≢ [] }
         requires room { passed (tree_of self [] []) ≡ None }
         ensures grown { IfOk result (λ more. (outcomes : List PartialOutcome)
-            → grown (tree_of self sets.now outcomes) choice.kind choice.set outcome
+            → grown (tree_of self sets.now outcomes) used.kind used.set outcome
             ≡ Some (tree_of more sets.now outcomes)) }
         ensures longer { IfOk result (λ more. length more.list ≡ suc (length self.list)) }
     {
@@ -141,13 +141,13 @@ impl Nodes {
             return Ok(Nodes { list, branchings });
         };
         let number = list.len() as u32;
-        let count = sets.count(choice.set);
+        let count = sets.count(used.set);
         add_branches(&mut branchings, number, count, branching.depth + 1)?;
         list.push(Node {
-            kind: choice.kind,
+            kind: used.kind,
             parent: branching.node,
             branch: branching.next,
-            set: choice.set,
+            set: used.set,
             outcome,
         })?;
         Ok(Nodes { list, branchings })

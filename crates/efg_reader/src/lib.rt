@@ -2,8 +2,8 @@
 //!
 //! Callers may rely on: `read` gives the tree of a file, or where there is none a fault or a limit;
 //! answers are single.
-//! Definitions: `specs::Stops` has what tokens answer; the grammar, the kinds of faults and the
-//! readers of a file's parts stand in `tree_grammar`.
+//! Definitions: `specs::Stops` has what tokens answer; the grammar and the readers of a file's parts
+//! stand in `tree_grammar`, the faults in `tree_faults`.
 //! Private words: `specs::States` and `PartialCodes`, what is kept while nodes are read.
 //! Lemmas for callers: `proofs::FileStopLemmas`.
 //! A change here touches: the trees of docs/FORMAT.md, `gambit_tools` and `refusals`.
@@ -15,4 +15,4 @@ mod nodes;
 mod reading;
 
 pub use fault::{EfgFault, EfgStop};
-pub use reading::{faults_are_single, read, trees_are_single};
+pub use reading::{read, trees_are_single};

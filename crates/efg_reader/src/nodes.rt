@@ -11,7 +11,7 @@ ghost use Rattle.tree_grammar.specs.TreePieces.{begins_node};
 ghost use Rattle.tree_grammar.specs.TreeParsing.{parse_set_choice, parse_own_choice, parse_choice, parse_at, parse_all_nodes};
 ghost use Rattle.written_trees.specs.Building.{passed};
 
-use crate::builder::{Builder, Choice};
+use crate::builder::{Builder, UsedSet};
 use file_parts::{PartStop, ends, text, unexpected, word};
 use game_core::{Kind, Name, Spanned, What};
 use std::alloc::{AllocError, Global};
@@ -66,56 +66,55 @@ fn kind_of(owner: Option<u32>) -> Kind
     }
 }
 
-// The sets with one of this owner, the choice at it, and the tokens after it.
+// The sets with one of this owner, that set as the node uses it, and the tokens after it.
 #[tactic(auto, using(file_parts::proofs::ParseLemmas::refused_first), unfolding(tree_grammar::specs::TreeParsing::parse_set_choice))]
-fn set_choice<'a>(
+fn use_set<'a>(
     alloc: Global,
     sets: Sets,
     owner: Option<u32>,
     number: u32,
     tokens: &'a [Spanned],
-) -> Result<(Sets, Choice, &'a [Spanned]), PartStop<EfgKind>>
+) -> Result<(Sets, UsedSet, &'a [Spanned]), PartStop<EfgKind>>
     requires few { length sets < 4294967295 }
     requires short { AllByRecursion IsShortToken (bare tokens.now) }
     ensures { Parses (λ x. ((x.0, (x.1.kind, x.1.set)), bare x.2.now)) result
         (parse_set_choice number sets owner (bare tokens.now)) }
 {
     let (sets, set, rest) = read_set(alloc, sets, owner, number, tokens)?;
-    let choice = Choice {
+    let used = UsedSet {
         kind: kind_of(owner),
         set: Some(set),
     };
-    Ok((sets, choice, rest))
+    Ok((sets, used, rest))
 }
 
-// The sets with one of the player whose number comes, the choice at it, and the tokens after it.
-#[tactic(auto, using(file_parts::proofs::ParseLemmas::refused_first, tree_grammar::proofs::ShortRestLemmas::player_leaves), unfolding(tree_grammar::specs::TreeParsing::parse_own_choice))]
-fn own_choice<'a>(
+// The sets with one of the player whose number comes, that set as the node uses it, and the tokens after it.
+#[tactic(auto, using(file_parts::proofs::ParseLemmas::refused_first, tree_faults::proofs::ShortRestLemmas::player_leaves), unfolding(tree_grammar::specs::TreeParsing::parse_own_choice))]
+fn use_own_set<'a>(
     alloc: Global,
     sets: Sets,
     players: u32,
     number: u32,
     tokens: &'a [Spanned],
-) -> Result<(Sets, Choice, &'a [Spanned]), PartStop<EfgKind>>
+) -> Result<(Sets, UsedSet, &'a [Spanned]), PartStop<EfgKind>>
     requires few { length sets < 4294967295 }
     requires short { AllByRecursion IsShortToken (bare tokens.now) }
     ensures { Parses (λ x. ((x.0, (x.1.kind, x.1.set)), bare x.2.now)) result
         (parse_own_choice players number sets (bare tokens.now)) }
 {
     let (player, following) = player(tokens, players)?;
-    set_choice(alloc, sets, Some(player), number, following)
+    use_set(alloc, sets, Some(player), number, following)
 }
 
-// A node with this number up to its outcome: the sets with the one that it uses, the choice that is made there, and
-// the tokens after it.
-#[tactic(auto, using(tree_grammar::proofs::ShortRestLemmas::short_after), unfolding(tree_grammar::specs::TreeParsing::parse_choice))]
-fn choice<'a>(
+// A node with this number up to its outcome: the sets with the one that it uses, that set, and the tokens after it.
+#[tactic(auto, using(tree_faults::proofs::ShortRestLemmas::short_after), unfolding(tree_grammar::specs::TreeParsing::parse_choice))]
+fn node_front<'a>(
     alloc: Global,
     sets: Sets,
     players: u32,
     number: u32,
     tokens: &'a [Spanned],
-) -> Result<(Sets, Choice, &'a [Spanned]), PartStop<EfgKind>>
+) -> Result<(Sets, UsedSet, &'a [Spanned]), PartStop<EfgKind>>
     requires few { length sets < 4294967295 }
     requires short { AllByRecursion IsShortToken (bare tokens.now) }
     ensures { Parses (λ x. ((x.0, (x.1.kind, x.1.set)), bare x.2.now)) result
@@ -128,15 +127,15 @@ fn choice<'a>(
         return Err(unexpected(EfgKind::Node, name_on));
     };
     if is_word(word, b"c") {
-        set_choice(alloc, sets, None, number, following)
+        use_set(alloc, sets, None, number, following)
     } else if is_word(word, b"p") {
-        own_choice(alloc, sets, players, number, following)
+        use_own_set(alloc, sets, players, number, following)
     } else if is_word(word, b"t") {
-        let choice = Choice {
+        let used = UsedSet {
             kind: Kind::End,
             set: None,
         };
-        Ok((sets, choice, following))
+        Ok((sets, used, following))
     } else {
         Err(unexpected(EfgKind::Node, tokens))
     }
@@ -162,9 +161,9 @@ fn next<'a>(
         outcomes,
     } = builder;
     let number = nodes.list.len() as u32;
-    let (sets, choice, following) = choice(alloc, sets, players, number, tokens)?;
+    let (sets, used, following) = node_front(alloc, sets, players, number, tokens)?;
     let (outcomes, outcome, rest) = read_outcome(alloc, outcomes, players as usize, following)?;
-    let nodes = nodes.add(&sets, choice, outcome)?;
+    let nodes = nodes.add(&sets, used, outcome)?;
     Ok((
         Builder {
             nodes,

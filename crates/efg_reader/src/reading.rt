@@ -1,11 +1,8 @@
 // Reads a tree from the tokens of a file.
-ghost use Rattle.std.specs.Prelude.{ℕ, ◌≡◌, ◌⊎◌, ◌<◌, ◌^◌, length, IfOk, IfErr};
+ghost use Rattle.std.specs.Prelude.{◌≡◌, ◌<◌, ◌^◌, length, IfOk, IfErr};
 ghost use Rattle.answers.specs.Answers.{Gives, IsSingle};
 ghost use Rattle.game_core.specs.Tree.{IsGameTree};
 ghost use Rattle.written_trees.specs.Building.{tree_so_far};
-ghost use Rattle.tree_grammar.specs.TreeFaults.{IsFile};
-ghost use Rattle.tree_grammar.specs.FaultKinds.{IsFault};
-ghost use Rattle.tree_grammar.specs.declared.kinds.EfgKind.{EfgKind};
 ghost use Rattle.efg_reader.specs.Stops.{IsEfgStop, IsNodesStop, tree_in};
 ghost use Rattle.efg_reader.specs.declared.fault.EfgStop.TheVariants.{Memory};
 ghost use Rattle.game_core.specs.TokenList.{TokenList, bare};
@@ -93,16 +90,4 @@ pub fn read(alloc: Global, tokens: &Tokens) -> Result<Tree, EfgStop>
 /// The tokens of a source have one answer at most.
 pub fn trees_are_single()
     ensures { (tokens : TokenList) → IsSingle (tree_in tokens) }
-{}
-
-/// The tokens of a source have one fault at most; they have none where they are a file of a tree, and one where they are
-/// none. (There are fewer than 2^32 of them.)
-pub fn faults_are_single()
-    ensures one { (tokens : TokenList) (kind other : EfgKind) (at offset : ℕ)
-        → IsFault tokens kind at
-        → IsFault tokens other offset → (kind ≡ other) × (at ≡ offset) }
-    ensures of_no_file { (tokens : TokenList) (kind : EfgKind) (at : ℕ) → IsFile (bare tokens.list)
-        → IsFault tokens kind at → ⊥ }
-    ensures of_others { (tokens : TokenList) → length tokens.list < 2 ^ 32
-        → IsFile (bare tokens.list) ⊎ ((kind : EfgKind) × (at : ℕ) × IsFault tokens kind at) }
 {}

@@ -15,7 +15,7 @@ use Rattle.extreme_equilibria.proofs.SpreadPointLemmas.{points-spread}
 use Rattle.game_core.specs.Table.{GameTable, strategy_counts}
 use Rattle.lists.proofs.ElementLemmas.{two-elements}
 use Rattle.game_core.proofs.TableCountLemmas.{strategy_count-names}
-use Rattle.reduced_form.specs.Kept.{KeptForm, IsKeptForm}
+use Rattle.kept_strategies.specs.Kept.{KeptForm, IsKeptForm}
 use Rattle.reply_polytope.proofs.PolytopeLemmas.{polytopes_of}
 use Rattle.enummixed.specs.ExtremeText.{VertexPairs, IsExtremeEquilibriaText, extreme_pairs}
 use Rattle.enummixed.specs.Order.{line_of, pair_order}

@@ -24,12 +24,12 @@ pub use extreme::{ExtremePairs, extreme_pairs};
 pub use listing::{list_equilibria_of_kept, list_extreme_equilibria};
 pub use stop::MixedStop;
 
-/// A game has one list of pairs, or one reason why it has none.
+/// A game has one answer at most: a list of pairs, or why it has none.
 pub fn extreme_pairs_are_single()
     ensures { ExtremePairsAreSingle }
 {}
 
-/// A game has one text of extreme equilibria, or one reason why it has none.
+/// A game has one answer at most: a text of extreme equilibria, or why it has none.
 pub fn extreme_texts_are_single()
     ensures { ExtremeTextsAreSingle }
 {}

@@ -1,4 +1,4 @@
--- A game has one text of pure equilibria.
+-- A game has at most one text of pure equilibria.
 use Rattle.std.proofs.Common.{ℕ, ◌≡◌, ◌<◌, ◌≤◌, ◌∙◌, List, length, Ok, Err, inr, refl, sym, ap, subst}
 use Rattle.answers.specs.Answers.{IsSingle, refused_by, such_that}
 use Rattle.answers.proofs.AnswerLemmas.{bind-single, refused_by-single, such_that-single}

@@ -164,7 +164,7 @@ pub fn list_pure_equilibria(alloc: Global, table: &Table) -> Result<Vec<u8>, Lis
     list_profiles(alloc, &counts, &all_best)
 }
 
-/// A game has one such text, or one that is too long.
+/// A game has at most one answer: the text, or that it is too long.
 pub fn pure_texts_are_single()
     ensures { (game : Game) → IsSingle (pure_text game) }
 {}

@@ -1,4 +1,4 @@
--- Lines tell profiles, and a tree has one list of equilibria.
+-- Lines tell profiles, and a tree has at most one list of equilibria.
 use Rattle.std.proofs.Common.{ℕ, ◌<◌, ◌≡◌, Some, List, length, map, Contains, sym, ap, ◌∙◌, subst}
 use Rattle.std.proofs.lemmas.List.Elements.{All-contains}
 use Rattle.game_theory.specs.TreeEntries.{tree_entries}
@@ -51,12 +51,12 @@ equilibria-within t strategies one other p q z c =
     let line = All-contains (IsTreeEquilibriumLine t strategies) one z p.sound c in
     subst (λ v. Contains other v) (sym line.is_line) (q.complete line.profile line.is_profile line.is_equilibrium)
 
--- a tree has one list of equilibria
+-- a tree has at most one list of equilibria
 pub equilibria-determined : (t : Tree) (strategies : List (List (List ℕ))) (one other : List (List ℚ)) → AreTreeEquilibria t strategies one → AreTreeEquilibria t strategies other → one ≡ other
 equilibria-determined t strategies one other p q =
     AreInOrder-determined one other p.in_order q.in_order (equilibria-within t strategies one other p q) (equilibria-within t strategies other one q p)
 
--- a tree has one text of equilibria
+-- a tree has at most one text of equilibria
 pub text-determined : OneTextOfEquilibria
 text-determined t strategies one other p q =
     p.is_text ∙ ap lines_text (equilibria-determined t strategies p.lines q.lines p.are_equilibria q.are_equilibria) ∙ sym q.is_text

@@ -1,4 +1,4 @@
--- A tree has one text of the choices that pass.
+-- A tree has at most one text of the choices that pass.
 use Rattle.std.proofs.Common.{ℕ, ◌≡◌, Bool, List, Contains, Ok, sym, ap, ◌∙◌, subst}
 use Rattle.std.proofs.lemmas.List.Elements.{All-contains}
 use Rattle.answers.specs.Answers.{Answer, IsSingle, refused_by, such_that}
@@ -34,12 +34,12 @@ lines-within agents perfect t one other p q z c =
     let line = All-contains (IsPassingLine agents perfect t) one z p.sound c in
     subst (Contains other) (sym line.is_line) (q.complete line.choice line.is_choice line.passes)
 
--- the choices that pass have one text
+-- the choices that pass have at most one text
 texts-same : (agents perfect : Bool) (t : Tree) (one other : List ℕ) → IsPassingText agents perfect t one → IsPassingText agents perfect t other → one ≡ other
 texts-same agents perfect t one other p q =
     p.is_text ∙ ap lines_text (AreInOrder-determined p.lines q.lines p.are_passing.in_order q.are_passing.in_order (lines-within agents perfect t p.lines q.lines p.are_passing q.are_passing) (lines-within agents perfect t q.lines p.lines q.are_passing p.are_passing)) ∙ sym q.is_text
 
--- the values have one answer
+-- the values have at most one answer
 values-single : (t : Tree) (nodes : List ℕ) → IsSingle (values_in t nodes)
 values-single t nodes =
     bind-single (refused_by stops.TooLarge few) (λ _. refused_by told fit) (refused_by-single stops.TooLarge few (refuse_where-single _ _)) (λ _ _. refused_by-single told fit (all_fit-single (value_steps t) (value_indices t nodes)))

@@ -13,7 +13,7 @@ LinesDetermineProfiles =
     → IsProfile (map length strategies) other
     → profile_line t strategies one ≡ profile_line t strategies other → one ≡ other
 
--- a tree has one text of equilibria
+-- a tree has at most one text of equilibria
 abbrev pub OneTextOfEquilibria : Type 0
 OneTextOfEquilibria =
     (t : Tree) (strategies : List (List (List ℕ))) (one other : List ℕ)

@@ -1,27 +1,12 @@
 // The players' sets, and how many actions they have.
-ghost use Rattle.std.specs.Prelude.{◌≡◌, ◌++◌, IfOk, OnOk};
+ghost use Rattle.std.specs.Prelude.{◌≡◌, IfOk};
 ghost use Rattle.game_core.specs.TreeGame.{game_of_tree};
-ghost use Rattle.game_theory.specs.OwnSets.{action_counts, own_sets, player_sets};
+ghost use Rattle.game_theory.specs.OwnSets.{action_counts, player_sets};
 
 use frac128::Memory;
 use game_core::Tree;
 use game_core::tree_parts::{action_count, stands_for_game_tree};
 use std::alloc::Global;
-
-// Adds a player's own sets in order.
-fn push_own_sets(tree: &Tree, sets: &mut Vec<u32>, player: u32) -> Result<(), Memory>
-    ensures { OnOk result
-        (sets.new.items ≡ sets.old.items ++ own_sets (game_of_tree tree.now) player) }
-{
-    stands_for_game_tree(tree);
-    for number in 0..tree.sets().len() {
-        match tree.own_sets(player, number as u32) {
-            Some(set) => sets.push(set)?,
-            None => return Ok(()),
-        }
-    }
-    Ok(())
-}
 
 /// The players' sets: player by player, and in each set by set.
 pub(crate) fn player_sets(alloc: Global, tree: &Tree) -> Result<Vec<u32>, Memory>
@@ -30,7 +15,7 @@ pub(crate) fn player_sets(alloc: Global, tree: &Tree) -> Result<Vec<u32>, Memory
     stands_for_game_tree(tree);
     let mut sets = Vec::new(alloc);
     for player in 0..tree.players().len() {
-        push_own_sets(tree, &mut sets, player as u32)?;
+        sets.extend_from_slice(tree.sets_of(player as u32))?;
     }
     Ok(sets)
 }

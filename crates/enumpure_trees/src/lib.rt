@@ -13,7 +13,7 @@
 //! Private words: `specs::Orders`, `Ranks`, `StrategyOrders` and `Listing`, how the code sorts and
 //! lists; `Games`, the games at nodes and the columns of their payoffs, `PassingNumbers`, the choices that
 //! are equilibria by their numbers, and `Told`, how the reasons of other crates are told.
-//! Lemmas for callers: `proofs::EquilibriumLineLemmas`, that a tree has one list of lines;
+//! Lemmas for callers: `proofs::EquilibriumLineLemmas`, that a tree has at most one list of lines;
 //! `FormSizeLemmas`; `OneTextLaws` on the choices that pass.
 //! A change here touches: `refusals`, `gambit_tools`, and what `enumpure` prints of a tree without `-S`.
 #![tactic(auto)]
@@ -38,7 +38,7 @@ pub fn lines_determine_profiles()
     ensures { LinesDetermineProfiles }
 {}
 
-/// A tree has one text of equilibria.
+/// A tree has at most one text of equilibria.
 pub fn one_text_of_equilibria()
     ensures { OneTextOfEquilibria }
 {}

@@ -167,7 +167,7 @@ pub fn list_pure_behaviours(
     Ok(lines.text(alloc, &mut profile, count * each)?)
 }
 
-/// A tree has one such text, or one that is too long.
+/// A tree has at most one answer: the text, or that it is too long.
 pub fn behaviour_texts_are_single()
     ensures { (t : game_tree) (strategies : List (List (List ℕ)))
         → IsSingle (behaviour_text t strategies) }

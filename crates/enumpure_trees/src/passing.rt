@@ -1,5 +1,5 @@
 // The choices that are equilibria at nodes.
-ghost use Rattle.std.specs.Prelude.{◌≡◌, ◌*◌, ◌<◌, ◌≤◌, ◌^◌, ℕ, Contains, IfOk, false, length, true};
+ghost use Rattle.std.specs.Prelude.{◌≡◌, ◌*◌, ◌<◌, ◌≤◌, ◌^◌, ℕ, IfOk, false, length, true};
 ghost use Rattle.game_core.specs.Table.{most_payoffs};
 ghost use Rattle.game_core.specs.TreeGame.{game_of_tree};
 ghost use Rattle.game_theory.specs.Profiles.{Game};
@@ -46,11 +46,8 @@ fn strategy_count(tree: &Tree, player: u32) -> usize
 {
     stands_for_game_tree(tree);
     let mut count = 1;
-    for number in 0..tree.sets().len() {
-        match tree.own_sets(player, number as u32) {
-            Some(set) => count *= action_count(tree, set as usize),
-            None => return count,
-        }
+    for set in tree.sets_of(player) {
+        count *= action_count(tree, *set as usize);
     }
     count
 }

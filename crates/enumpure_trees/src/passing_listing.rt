@@ -50,7 +50,7 @@ pub fn list_passing_choices(
     Ok(list_profiles(alloc, &counts, &passing)?)
 }
 
-/// A tree has one such text, or one reason why there is none.
+/// A tree has at most one answer: the text, or why there is none.
 pub fn passing_texts_are_single()
     ensures { (agents perfect : Bool) (t : game_tree) → IsSingle (passing_text agents perfect t) }
 {}

@@ -10,7 +10,7 @@
 //! Lemmas for callers: `proofs::SystemLemmas` on the points of the systems, `TwoPlayerLemmas` on
 //! payoffs, `ExtremeListLemmas` and `PairLineLemmas` on lists of lines, `KeptListLemmas` and
 //! `RoundLemmas` on what is kept.
-//! A change here touches: `reduced_form`, `reply_polytope`, `label_pairing`, `enummixed`.
+//! A change here touches: `kept_strategies`, `reply_polytope`, `label_pairing`, `enummixed`.
 #![tactic(auto)]
 
 ghost use Rattle.extreme_equilibria.specs.Examples.{

@@ -9,7 +9,7 @@ use Rattle.rational.specs.Rational.{ℚ}
 use Rattle.game_core.specs.declared.token.Token.{Token}
 use Rattle.game_core.specs.declared.token.Token.TheVariants.{Left, Right, Text, Word, Number}
 use Rattle.file_parts.specs.Parts.{whole_number}
-use Rattle.file_parts.specs.Reading.{left_at, right_at, text_at, word_at, number_at, natural_of, whole_at, count_at, after_word, version_at, letter_at, opens}
+use Rattle.file_parts.specs.Reading.{opening_brace_at, closing_brace_at, text_at, word_at, number_at, natural_of, whole_at, count_at, after_word, version_at, letter_at, opens}
 use Rattle.file_parts.specs.Parsing.{wanted, passed}
 use Rattle.file_parts.proofs.TokenLaws.{count_again, expected_again}
 use Rattle.file_parts.proofs.HeaderLaws.{version_again, letter_again}
@@ -54,21 +54,21 @@ passed_reader kind h H t is = token_reader _ (record {
   ];
 })
 
-left_mark : (t : Token) → ((rest : List Token) → left_at (t ∷ rest) ≡ Some rest) ⊎ ((rest : List Token) → left_at (t ∷ rest) ≡ None)
-left_mark Left = inl (λ rest. refl)
-left_mark _ = inr (λ rest. refl)
+opening_brace_mark : (t : Token) → ((rest : List Token) → opening_brace_at (t ∷ rest) ≡ Some rest) ⊎ ((rest : List Token) → opening_brace_at (t ∷ rest) ≡ None)
+opening_brace_mark Left = inl (λ rest. refl)
+opening_brace_mark _ = inr (λ rest. refl)
 
 -- an opening brace
-pub left_reader : {K : Type 0} (kind : K) → IsReader (λ tokens. passed kind tokens (left_at tokens))
-left_reader kind = passed_reader kind left_at (record { none = refl; by_token = left_mark }) Left (λ rest. refl)
+pub opening_brace_reader : {K : Type 0} (kind : K) → IsReader (λ tokens. passed kind tokens (opening_brace_at tokens))
+opening_brace_reader kind = passed_reader kind opening_brace_at (record { none = refl; by_token = opening_brace_mark }) Left (λ rest. refl)
 
-right_mark : (t : Token) → ((rest : List Token) → right_at (t ∷ rest) ≡ Some rest) ⊎ ((rest : List Token) → right_at (t ∷ rest) ≡ None)
-right_mark Right = inl (λ rest. refl)
-right_mark _ = inr (λ rest. refl)
+closing_brace_mark : (t : Token) → ((rest : List Token) → closing_brace_at (t ∷ rest) ≡ Some rest) ⊎ ((rest : List Token) → closing_brace_at (t ∷ rest) ≡ None)
+closing_brace_mark Right = inl (λ rest. refl)
+closing_brace_mark _ = inr (λ rest. refl)
 
 -- a closing brace
-pub right_reader : {K : Type 0} (kind : K) → IsReader (λ tokens. passed kind tokens (right_at tokens))
-right_reader kind = passed_reader kind right_at (record { none = refl; by_token = right_mark }) Right (λ rest. refl)
+pub closing_brace_reader : {K : Type 0} (kind : K) → IsReader (λ tokens. passed kind tokens (closing_brace_at tokens))
+closing_brace_reader kind = passed_reader kind closing_brace_at (record { none = refl; by_token = closing_brace_mark }) Right (λ rest. refl)
 
 text_head : (t : Token) → ((x : List ℕ) × ((rest : List Token) → text_at (t ∷ rest) ≡ Some (x, rest))) ⊎ ((rest : List Token) → text_at (t ∷ rest) ≡ None)
 text_head (Text text) = inl (text, λ rest. refl)

@@ -3,7 +3,7 @@ use Rattle.std.proofs.Common.{◌≡◌, ℕ, zero, suc, Bool, true, false, if�
 use Rattle.std.specs.Prelude.{Result, Ok, Err, [], ◌∷◌}
 use Rattle.lists.specs.Options.{◌>>=◌}
 use Rattle.game_core.specs.declared.token.Token.{Token}
-use Rattle.file_parts.specs.Reading.{left_at, right_at, text_at, number_at, after_word, version_at, letter_at, texts_at, payoff_start, payoff_at}
+use Rattle.file_parts.specs.Reading.{opening_brace_at, closing_brace_at, text_at, number_at, after_word, version_at, letter_at, texts_at, payoff_start, payoff_at}
 use Rattle.file_parts.specs.Parsing.{Parsed, wanted, passed, parse_each, parse_names, parse_payoff, parse_payoffs, parse_title}
 use Rattle.file_parts.proofs.ReaderLemmas.{chain}
 use Rattle.rational.specs.Rational.{ℚ}
@@ -20,9 +20,9 @@ repeat_at part first (suc n) tokens = do
 -- one or more texts in braces
 unfoldable pub names_at : List Token → Option (List (List ℕ) × List Token)
 names_at tokens = do
-  inner ← left_at tokens
+  inner ← opening_brace_at tokens
   names ← if nat_eq (length (texts_at inner).0) 0 then None else Some (texts_at inner)
-  rest ← right_at names.1
+  rest ← closing_brace_at names.1
   Some (names.0, rest)
 
 -- this many payoffs
@@ -75,9 +75,9 @@ value_each part other same i (suc n) tokens = value_chain (part i tokens) (other
 -- names
 pub value_names : {K : Type 0} (kind : K) (tokens : List Token) → value (parse_names kind tokens) ≡ names_at tokens
 unfolding parse_names names_at
-value_names kind tokens = value_passed kind tokens (left_at tokens) _ _ (λ inner.
+value_names kind tokens = value_passed kind tokens (opening_brace_at tokens) _ _ (λ inner.
     value_chain (if nat_eq (length (texts_at inner).0) 0 then Err (kind, (texts_at inner).1) else Ok (texts_at inner)) _ _ _ (value_if (nat_eq (length (texts_at inner).0) 0) (Err (kind, (texts_at inner).1)) (Ok (texts_at inner)) None (Some (texts_at inner)) refl refl) (λ names.
-    value_passed kind names.1 (right_at names.1) _ _ (λ rest. refl)))
+    value_passed kind names.1 (closing_brace_at names.1) _ _ (λ rest. refl)))
 
 -- payoffs
 pub value_payoffs : {K : Type 0} (kind : K) (n : ℕ) (tokens : List Token) → value (parse_payoffs kind n tokens) ≡ payoffs_at n tokens

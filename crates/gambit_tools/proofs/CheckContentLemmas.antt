@@ -130,7 +130,7 @@ verdicts-contents false (Extensive tree) lines =
     (told-contents recall_refusal (recall_of tree) (recall-contents tree)) (λ _. told-contents check_refusal (tree_check tree lines) (tree_check-reasons tree lines))
 
 -- ---- one answer
--- lines have one answer on a table, and on a tree
+-- lines have at most one answer on a table, and on a tree
 pub record ChecksAreSingle : Type 0 where
   pub tables : TableChecksAreSingle
   pub trees : TreeChecksAreSingle

@@ -16,7 +16,7 @@ use Rattle.game_text.specs.declared.reading.TextStop.TheVariants as text_stop
 use Rattle.nfg_reader.specs.Stops.{table_in}
 use Rattle.nfg_reader.specs.declared.reading.NfgStop.{NfgStop}
 use Rattle.nfg_reader.specs.declared.reading.NfgStop.TheVariants as nfg_stop
-use Rattle.tree_grammar.specs.FaultKinds.{IsKind}
+use Rattle.tree_faults.specs.FaultKinds.{IsKind}
 use Rattle.tree_grammar.specs.declared.kinds.EfgKind.{EfgKind}
 use Rattle.tree_grammar.specs.declared.kinds.EfgKind.TheVariants as efg_kind
 use Rattle.efg_reader.specs.Stops.{tree_in}

@@ -31,13 +31,13 @@ use Rattle.sequence_form.specs.Forms.{of_two_players, table_form, table_leaves, 
 use Rattle.sequence_form.specs.Laws.{count_of_columns, count_of_rows}
 use Rattle.sequence_form.specs.Paths.{node_steps, paths_in, tree_leaves}
 use Rattle.sequence_form.specs.Sequences.{start_side, tree_side}
-use Rattle.sequence_form.specs.declared.counts.Counts.{Counts}
+use Rattle.sequence_data.specs.declared.sizes.Counts.{Counts}
 use Rattle.two_player_tools.specs.Entries.{entries_in, plans_line}
 use Rattle.gambit_tools.specs.Laws.{FaultNamesStep}
 use Rattle.gambit_tools.specs.Origins.{Contents, origin}
 use Rattle.two_player_tools.specs.StrategicForms.{strategic_form}
 use Rattle.two_player_tools.specs.TwoPlayers.{form_in, form_of_table, form_of_tree, table_counts, tree_counts, two_players}
-use Rattle.refusals.specs.Told.{behaviour_refusal, form_refusal, limit_refusal, recall_refusal, sequence_refusal}
+use Rattle.refusals.specs.Told.{behaviour_refusal, form_refusal, recall_refusal, sequence_refusal}
 use Rattle.refusals.specs.declared.refusal.Refusal.{Refusal}
 use Rattle.refusals.specs.declared.refusal.Refusal.TheVariants as refusal
 
@@ -156,15 +156,15 @@ strategic_form-contents (Extensive tree) =
 
 form_of_table-contents : (rows : Counts → ℕ) (t : GameTable) → AreContents (form_of_table rows t)
 form_of_table-contents rows t =
-    then-contents (refused_by limit_refusal (within what.Rows most_rows (rows (table_counts t)))) (λ _. refused_by sequence_refusal (table_form t))
-    (told-contents limit_refusal (within what.Rows most_rows (rows (table_counts t))) (λ stop h. refl)) (λ _. told-contents sequence_refusal (table_form t) (table_form-contents t))
+    then-contents (refused_by refusal.TooLarge (within what.Rows most_rows (rows (table_counts t)))) (λ _. refused_by sequence_refusal (table_form t))
+    (told-contents refusal.TooLarge (within what.Rows most_rows (rows (table_counts t))) (λ stop h. refl)) (λ _. told-contents sequence_refusal (table_form t) (table_form-contents t))
 
 form_of_tree-contents : (rows : Counts → ℕ) (t : GameTree) → AreContents (form_of_tree rows t)
 form_of_tree-contents rows t =
-    then-contents (refused_by recall_refusal (recall_of t)) (λ _. refused_by limit_refusal (within what.Rows most_rows (rows (tree_counts t))) >> refused_by sequence_refusal (tree_form t))
+    then-contents (refused_by recall_refusal (recall_of t)) (λ _. refused_by refusal.TooLarge (within what.Rows most_rows (rows (tree_counts t))) >> refused_by sequence_refusal (tree_form t))
     (told-contents recall_refusal (recall_of t) (recall-contents t))
-    (λ _. then-contents (refused_by limit_refusal (within what.Rows most_rows (rows (tree_counts t)))) (λ _. refused_by sequence_refusal (tree_form t))
-    (told-contents limit_refusal (within what.Rows most_rows (rows (tree_counts t))) (λ stop h. refl)) (λ _. told-contents sequence_refusal (tree_form t) (tree_form-contents t)))
+    (λ _. then-contents (refused_by refusal.TooLarge (within what.Rows most_rows (rows (tree_counts t)))) (λ _. refused_by sequence_refusal (tree_form t))
+    (told-contents refusal.TooLarge (within what.Rows most_rows (rows (tree_counts t))) (λ stop h. refl)) (λ _. told-contents sequence_refusal (tree_form t) (tree_form-contents t)))
 
 strategic-contents : (rows : Counts → ℕ) (game : Game) → AreContents (strategic_form game >>= form_of_table rows)
 strategic-contents rows game = then-contents (strategic_form game) (form_of_table rows) (strategic_form-contents game) (form_of_table-contents rows)

@@ -3,17 +3,17 @@ use Rattle.std.proofs.Common.{inl, inr, refl, subst, sym, Bool, Err}
 use Rattle.answers.specs.Answers.{only, ◌>>=◌, refused_by}
 use Rattle.game_core.specs.declared.game.Game.{Game}
 use Rattle.sequence_data.specs.Data.{FormData}
-use Rattle.sequence_form.specs.Counts.{problem_rows}
+use Rattle.sequence_data.specs.Sizes.{problem_rows}
 use Rattle.lex_tableau.specs.StartStops.{start_of}
 use Rattle.lex_tableau.specs.declared.tableau.StartStop.{StartStop}
-use Rattle.zero_sum_lp.specs.PlanPairs.{PlanPair}
+use Rattle.sequence_data.specs.PlanPairs.{PlanPair}
 use Rattle.lemke_pivot.specs.Ends.{solved_in}
 use Rattle.lemke_pivot.specs.FormProblems.{IsSystemOf, problem_in, told_start}
-use Rattle.lemke_pivot.specs.Parts.{size_of}
+use Rattle.lemke_pivot.specs.Parts.{size_of, plans_at}
 use Rattle.lemke_pivot.specs.declared.stop.LcpStop.{LcpStop}
 use Rattle.lemke_pivot.proofs.PathEndLemmas.{path_unfit}
 use Rattle.two_player_tools.specs.Entries.{plans_line}
-use Rattle.two_player_tools.specs.Lcp.{equilibrium_in, lcp, plans_at}
+use Rattle.two_player_tools.specs.Lcp.{equilibrium_in, lcp}
 use Rattle.refusals.specs.Told.{pivot_refusal, problem_refusal}
 use Rattle.two_player_tools.specs.TwoPlayers.{form_in, two_players}
 use Rattle.refusals.specs.declared.refusal.Refusal.{Refusal}

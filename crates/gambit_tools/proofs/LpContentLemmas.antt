@@ -6,7 +6,7 @@ use Rattle.frac128.specs.declared.steps.Op.TheVariants.{Add}
 use Rattle.game_theory.specs.Lines.{line_text}
 use Rattle.game_core.specs.declared.game.Game.{Game}
 use Rattle.sequence_data.specs.Data.{FormData}
-use Rattle.sequence_form.specs.Counts.{size_of_program}
+use Rattle.sequence_data.specs.Sizes.{program_size}
 use Rattle.lex_tableau.specs.StartStops.{start_of}
 use Rattle.lex_tableau.specs.declared.tableau.StartStop.{StartStop}
 use Rattle.zero_sum_lp.specs.Ends.{optimum_in}
@@ -70,6 +70,6 @@ text-contents strategic prices game f s =
 
 pub lp-contents : (strategic prices : Bool) (game : Game) (r : Refusal) → lp strategic prices game (Err r) → IsOfContents r
 lp-contents strategic prices game =
-    then-contents (two_players game) (λ _. form_in size_of_program strategic game >>= λ f. (solution_in f >>= λ s. solution_text strategic prices game f s)) (two_players-contents game)
-    (λ _. then-contents (form_in size_of_program strategic game) (λ f. solution_in f >>= λ s. solution_text strategic prices game f s) (form_in-contents size_of_program strategic game)
+    then-contents (two_players game) (λ _. form_in program_size strategic game >>= λ f. (solution_in f >>= λ s. solution_text strategic prices game f s)) (two_players-contents game)
+    (λ _. then-contents (form_in program_size strategic game) (λ f. solution_in f >>= λ s. solution_text strategic prices game f s) (form_in-contents program_size strategic game)
     (λ f. then-contents (solution_in f) (λ s. solution_text strategic prices game f s) (solution_in-contents f) (λ s. text-contents strategic prices game f s)))

@@ -7,10 +7,10 @@ use Rattle.game_core.specs.Table.{GameTable, game_of}
 use Rattle.game_core.specs.declared.game.Game.{Game}
 use Rattle.linear_systems.specs.Vertices.{MarkedPoint}
 use Rattle.lex_tableau.specs.Starts.{LinearSystem}
-use Rattle.reduced_form.specs.Kept.{kept_of}
-use Rattle.reduced_form.proofs.KeptSingleLemmas.{kept_not_memory}
-use Rattle.reduced_form.specs.declared.kept_stop.KeptStop.{KeptStop}
-use Rattle.reduced_form.specs.declared.kept_stop.KeptStop.TheVariants as kept_stop
+use Rattle.kept_strategies.specs.Kept.{kept_of}
+use Rattle.kept_strategies.proofs.KeptSingleLemmas.{kept_not_memory}
+use Rattle.kept_strategies.specs.declared.kept_stop.KeptStop.{KeptStop}
+use Rattle.kept_strategies.specs.declared.kept_stop.KeptStop.TheVariants as kept_stop
 use Rattle.enumpure.specs.Stops.{within_text_limit}
 use Rattle.enumpure.specs.declared.listing.ListStop.{ListStop}
 use Rattle.enumpure.specs.declared.listing.ListStop.TheVariants as list_stop

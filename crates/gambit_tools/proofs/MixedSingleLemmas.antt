@@ -4,8 +4,8 @@ use Rattle.answers.specs.Answers.{IsSingle, refused_by, ◌>>=◌}
 use Rattle.answers.proofs.AnswerLemmas.{bind-single, refused_by-single}
 use Rattle.game_core.specs.Table.{GameTable, game_of}
 use Rattle.game_core.specs.declared.game.Game.{Game}
-use Rattle.reduced_form.specs.Kept.{kept_of}
-use Rattle.reduced_form.proofs.KeptSingleLemmas.{kept_of-single}
+use Rattle.kept_strategies.specs.Kept.{kept_of}
+use Rattle.kept_strategies.proofs.KeptSingleLemmas.{kept_of-single}
 use Rattle.enummixed.specs.ExtremeText.{extreme_text, kept_text}
 use Rattle.enummixed.proofs.VertexPairLemmas.{texts-single}
 use Rattle.refusals.specs.Told.{kept_refusal, mixed_refusal}

@@ -16,12 +16,12 @@ use Rattle.subgames.specs.MadeCuts.{MadeCut}
 use Rattle.verdicts.specs.TreeSteps.{now_steps_at}
 use Rattle.verdicts.specs.declared.payoffs.PayoffsStop.{PayoffsStop}
 use Rattle.verdicts.specs.declared.payoffs.PayoffsStop.TheVariants as payoffs_stop
-use Rattle.zero_sum_lp.specs.PlanPairs.{PlanPair}
+use Rattle.sequence_data.specs.PlanPairs.{PlanPair}
 use Rattle.refusals.specs.Told.{behaviour_refusal, recall_refusal}
 use Rattle.refusals.specs.declared.refusal.Refusal.{Refusal}
 use Rattle.refusals.specs.declared.refusal.Refusal.TheVariants as refusal
 use Rattle.two_player_tools.specs.Lp.{solution_in}
-use Rattle.two_player_tools.specs.Perfect.{cut_entries_in, entries_by, in_subgame, lcp_tool, lp_tool, node_payoffs_fit, perfect_in, perfect_text, plans_by, worth_refusal}
+use Rattle.two_player_tools.specs.Perfect.{cut_entries_in, entries_by, in_subgame, lcp_tool, lp_tool, entry_payoffs_fit, perfect_in, perfect_text, plans_by, worth_refusal}
 use Rattle.two_player_tools.specs.TwoPlayers.{form_of_tree, rows_by, two_players}
 use Rattle.two_player_tools.specs.declared.forms.Method.{Method}
 use Rattle.two_player_tools.specs.declared.forms.Method.TheVariants.{LinearProgram, Complementarity}
@@ -45,23 +45,23 @@ entries_by-contents method t =
 -- a refusal comes from the contents as it is told of the tree
 in_subgame-contents : (n : ℕ) (nodes : List ℕ) (r : Refusal) → IsOfContents r → IsOfContents (in_subgame n nodes r)
 in_subgame-contents n nodes (refusal.Range place step) h = h
-in_subgame-contents n nodes (refusal.NotConstant first second first_sum second_sum) h = refl
+in_subgame-contents n nodes (refusal.NotConstant sums) h = refl
 in_subgame-contents n nodes r h = h
 
-payoffs-contents : (n : ℕ) (t : GameTree) (entries : List ℚ) (stop : PayoffsStop) → node_payoffs_fit t entries (Err stop) → IsOfContents (worth_refusal n stop)
+payoffs-contents : (n : ℕ) (t : GameTree) (entries : List ℚ) (stop : PayoffsStop) → entry_payoffs_fit t entries (Err stop) → IsOfContents (worth_refusal n stop)
 payoffs-contents n t entries stop (b, _, h) =
     fitting-reasons (worth_refusal n) (λ unfit. payoffs_stop.Range unfit.0 unfit.1) (λ i. now_steps_at (game_of_tree t) b i 0) (range_with_len 0 (game_of_tree t).players) (λ unfit u. u) stop h
 
 cut_entries_in-contents : (method : Method) (n : ℕ) (cut : MadeCut) → AreContents (cut_entries_in method n cut)
 cut_entries_in-contents method n cut =
-    let paid = λ (entries : List ℚ). by_case (n ≡ 0) (only tt) (refused_by (worth_refusal n) (node_payoffs_fit cut.tree entries)) in
+    let paid = λ (entries : List ℚ). by_case (n ≡ 0) (only tt) (refused_by (worth_refusal n) (entry_payoffs_fit cut.tree entries)) in
     then-contents (refused_by (in_subgame n cut.nodes) (entries_by method cut.tree)) (λ entries. paid entries >> only entries)
     (told-contents (in_subgame n cut.nodes) (entries_by method cut.tree) (λ stop h. in_subgame-contents n cut.nodes stop (entries_by-contents method cut.tree stop h)))
     (λ entries. then-contents (paid entries) (λ _. only entries) (unpaid entries) (λ _. only-contents entries))
   where
-    unpaid : (entries : List ℚ) → AreContents (by_case (n ≡ 0) (only tt) (refused_by (worth_refusal n) (node_payoffs_fit cut.tree entries)))
+    unpaid : (entries : List ℚ) → AreContents (by_case (n ≡ 0) (only tt) (refused_by (worth_refusal n) (entry_payoffs_fit cut.tree entries)))
     unpaid entries r (inl h) = only-contents tt r h.1
-    unpaid entries r (inr h) = told-contents (worth_refusal n) (node_payoffs_fit cut.tree entries) (payoffs-contents n cut.tree entries) r h.1
+    unpaid entries r (inr h) = told-contents (worth_refusal n) (entry_payoffs_fit cut.tree entries) (payoffs-contents n cut.tree entries) r h.1
 
 -- ---- the tree
 perfect_in-contents : (method : Method) (t : GameTree) → AreContents (perfect_in method t)

@@ -25,9 +25,9 @@ formed_contents (refusal.Text fault) names = refl
 formed_contents (refusal.Nfg fault) names = refl
 formed_contents (refusal.Efg fault) names = refl
 formed_contents (refusal.NotTwoPlayers count) names = refl
-formed_contents (refusal.Forgets player set first_node second_node) names = refl
-formed_contents (refusal.NotConstant first second first_sum second_sum) names = refl
-formed_contents (refusal.TooLarge counted count limit) names = refl
+formed_contents (refusal.Forgets f) names = refl
+formed_contents (refusal.NotConstant sums) names = refl
+formed_contents (refusal.TooLarge passed) names = refl
 formed_contents (refusal.Range place step) names = refl
 formed_contents (refusal.SubgameRange node place step) names = refl
 formed_contents (refusal.BadLine line) names = refl
@@ -110,7 +110,7 @@ told_answer : (command : Command) (before after : Outside) (contents : List (Lis
 told_answer command before after contents (Ok text) h told none = inr (by_told command before.inputs contents (Ok text) told h.ends.0)
 told_answer command before after contents (Err r) h told none = told_refusal command before after contents r (origin r) refl h.ends told none
 
--- contents have one answer
+-- contents have at most one answer
 abbrev pub AnswersAreSingle : Type 0
 AnswersAreSingle = (command : Command) (contents : List (List ℕ)) → IsSingle (answer_of command contents)
 

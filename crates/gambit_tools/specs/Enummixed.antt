@@ -4,7 +4,7 @@ use Rattle.std.specs.Prelude.{ℕ, Bool, true, false, List, Ok}
 use Rattle.answers.specs.Answers.{Answer, ◌>>=◌, ◌>>◌, refused_by}
 use Rattle.game_core.specs.Table.{GameTable, game_of}
 use Rattle.game_core.specs.declared.game.Game.{Game}
-use Rattle.reduced_form.specs.Kept.{kept_of}
+use Rattle.kept_strategies.specs.Kept.{kept_of}
 use Rattle.enummixed.specs.ExtremeText.{IsExtremeEquilibriaText, extreme_text, kept_text}
 use Rattle.two_player_tools.specs.StrategicForms.{strategic_form}
 use Rattle.two_player_tools.specs.TwoPlayers.{two_players}

@@ -5,6 +5,7 @@ ghost use Rattle.words.specs.Words.{IsFrom};
 ghost use Rattle.enummixed.specs.Pairs.{pairs_of};
 ghost use Rattle.gambit_tools.specs.Make.{count_lines, counts_text, make};
 
+use crate::crew::Crew;
 use answers::Memory;
 use enummixed::{ExtremePairs, extreme_pairs};
 use game_core::make_table;
@@ -46,23 +47,20 @@ fn counts_text(alloc: Global, found: &ExtremePairs) -> Result<String, Memory>
 }
 
 /// Makes the table with a number, and counts the bases and the vertices of its polytopes and its
-/// extreme equilibria. So many workers share the enumeration, and the answer is the same for any
-/// number of them.
+/// extreme equilibria. The crew shares the enumeration, and the answer is the same for any number of
+/// workers.
 pub fn make<R: Threads + Sync, G: Gate>(
-    rt: &R,
+    crew: &Crew<R, G>,
     alloc: Global,
     number: u32,
     rows: u32,
     columns: u32,
-    workers: u32,
-    gate: &G,
 ) -> Result<Vec<u8>, Refusal>
     requires rows { IsFrom 1 32 rows }
     requires columns { IsFrom 1 32 columns }
-    requires workers { IsFrom 1 64 workers }
     ensures { Gives Refusal.Memory (make number rows columns) (map_ok result (λ text. text.items)) }
 {
     let table = make_table(alloc, number, rows, columns)?;
-    let found = extreme_pairs(rt, alloc, &table, workers, gate)?;
+    let found = extreme_pairs(crew.rt, alloc, &table, crew.workers, crew.gate)?;
     Ok(counts_text(alloc, &found)?.into_bytes())
 }

@@ -14,6 +14,7 @@ ghost use Rattle.refusals.specs.declared.refusal.Refusal.{Refusal};
 
 use crate::check::check;
 use crate::convert::convert;
+use crate::crew::Crew;
 use crate::lcp::lcp;
 use crate::lp::lp;
 use crate::make::make;
@@ -56,9 +57,10 @@ fn compute<R: Threads + Sync, I: Inputs, G: Gate>(
             perfect,
             file,
         } => enumpure(alloc, strategic, agents, perfect, file, inputs),
-        Settings::Enummixed { all, workers, file } => enummixed(
-            rt, alloc, all, workers, file, inputs, gate,
-        ),
+        Settings::Enummixed { all, workers, file } => {
+            let crew = Crew { rt, workers, gate };
+            enummixed(&crew, alloc, all, file, inputs)
+        }
         Settings::Lcp {
             strategic,
             perfect,
@@ -75,7 +77,10 @@ fn compute<R: Threads + Sync, I: Inputs, G: Gate>(
             rows,
             columns,
             workers,
-        } => make(rt, alloc, number, rows, columns, workers, gate),
+        } => {
+            let crew = Crew { rt, workers, gate };
+            make(&crew, alloc, number, rows, columns)
+        }
         Settings::Convert {
             layout,
             row,

@@ -1,3 +1,4 @@
+pub mod LastMoves
 pub mod Limits
 pub mod Spacing
 pub mod MadeTableLaws

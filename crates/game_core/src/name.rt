@@ -1,6 +1,7 @@
 // Names of players, strategies and games.
 ghost use Rattle.std.specs.Prelude.{◌≡◌, IfOk};
 
+use frac128::Memory;
 use std::alloc::{AllocError, Global};
 use std::marker::Model;
 
@@ -51,4 +52,19 @@ pub fn copied(alloc: Global, name: &Name) -> Result<Name, AllocError>
     ensures { IfOk result (λ copy. copy ≡ name.now) }
 {
     Ok(Name::new(Vec::from_slice(alloc, name.bytes())?))
+}
+
+/// Names of their own with the same bytes.
+///
+/// # Errors
+///
+/// Memory ran out.
+pub fn copied_names(alloc: Global, names: &[Name]) -> Result<Vec<Name>, Memory>
+    ensures { IfOk result (λ copies. copies.items ≡ names.now) }
+{
+    let mut copies = Vec::with_capacity(alloc, names.len())?;
+    for name in names {
+        copies.push(copied(alloc, name)?)?;
+    }
+    Ok(copies)
 }

@@ -338,13 +338,22 @@ impl Tree {
         self.outcomes.as_slice()
     }
 
-    /// The number of the set at this place among a player's own sets in order; nothing exactly where the player
-    /// has no more sets. Takes no memory.
+    /// The numbers of a player's own sets in order; none where there is no such player. Takes no memory.
+    pub fn sets_of(&self, player: u32) -> &[u32]
+        ensures { result.now ≡ own_sets (game_of_tree self.now) player }
+    {
+        match self.own.get(player as usize) {
+            Some(list) => list.as_slice(),
+            None => &[],
+        }
+    }
+
+    /// The number of the set at this place, from 0, among a player's own sets in order; nothing exactly where the
+    /// player has no more sets. Takes no memory.
     pub fn own_sets(&self, player: u32, place: u32) -> Option<u32>
         ensures { result ≡ slice_get (own_sets (game_of_tree self.now) player) place }
     {
-        let list = self.own.get(player as usize)?;
-        let set = list.get(place as usize)?;
+        let set = self.sets_of(player).get(place as usize)?;
         Some(*set)
     }
 }

@@ -350,6 +350,6 @@ form_again text (Decimal negative before after exponent) w =
           point_again w.0 before after w.2 text negative exponent w.3 m.0 m.1 m.2 w.5 (w.6 ∙ ap (λ t. w.0 ++ t ++ w.2) m.3 ∙ regroup)
     ]
 
--- a text has one form
+-- a text has at most one form
 pub one_form : (text : List ℕ) (one other : NumberForm) → IsWritten text one → IsWritten text other → one ≡ other
 one_form text one other p q = same_Some one other (sym (form_again text one p) ∙ form_again text other q)

@@ -1,4 +1,4 @@
--- A byte string has one list of tokens at most, and one first fault.
+-- A byte string has at most one list of tokens, and at most one first fault.
 use Rattle.std.proofs.Common.{◌≡◌, ◌≢◌, ℕ, ◌+◌, ◌<◌, ◌≤◌, List, [], ◌∷◌, ◌++◌, length, drop, Ok, Err, refl, sym, ap, subst, ◌∙◌, append_assoc, arith}
 use Rattle.std.proofs.lemmas.List.{append_cancel_right}
 use Rattle.std.specs.List.{AllByRecursion, prefix_len}
@@ -22,7 +22,7 @@ use Rattle.game_text.proofs.ByteRunLemmas.{drop-run}
 use Rattle.game_text.proofs.NumeralFormLemmas.{one_form}
 
 -- ---- numbers
--- a number has one value
+-- a text is a number of at most one value
 one_value : (text : List ℕ) (one other : ℚ) → IsNumber text one → IsNumber text other → one ≡ other
 one_value text one other h k =
     h.is_value ∙ ap form_value (one_form text h.form k.form h.is_written k.is_written) ∙ sym k.is_value

@@ -2,6 +2,7 @@
 ghost use Rattle.std.specs.Prelude.{◌≡◌, ◌<◌, ◌≤◌, ◌^◌, ℕ, get_or, length, map, sum, IfOk};
 ghost use Rattle.label_pairing.specs.Matches.{partner_count, AreUnions, HasBitsOf};
 
+use crate::candidates::Candidates;
 use crate::matching::{BLOCK, block_count, completes};
 use basis_enum::Vertex;
 use frac128::Memory;
@@ -67,13 +68,15 @@ fn place_count(mask: [u64; 2], all: [u64; 2], low: &[u64], high: &[u64]) -> usiz
     count
 }
 
-// How many masks, whose words and the unions of whose low words these are, complete a mask: block by
-// block, and the rest place by place.
-fn partner_count(mask: [u64; 2], all: [u64; 2], unions: &[u64], low: &[u64], high: &[u64]) -> usize
-    requires high { length high.now ≡ length low.now }
-    requires unions { AreUnions low.now unions.now }
-    ensures { result ≡ partner_count mask all low.now high.now }
+// How many candidates, the unions of whose low words are given, complete a mask: block by block, and
+// the rest place by place.
+fn partner_count(mask: [u64; 2], candidates: &Candidates, unions: &[u64]) -> usize
+    requires { AreUnions candidates.now.low.now unions.now }
+    ensures { let c = candidates.now in result ≡ partner_count mask c.all c.low.now c.high.now }
 {
+    let all = candidates.all;
+    let low = candidates.low;
+    let high = candidates.high;
     let blocks = low.len() / BLOCK;
     let mut count = 0;
     for block in 0..blocks {
@@ -85,33 +88,28 @@ fn partner_count(mask: [u64; 2], all: [u64; 2], unions: &[u64], low: &[u64], hig
     count + place_count(mask, all, &low[rest..], &high[rest..])
 }
 
-/// How many partners each vertex has: masks of a list, whose low and high words are given apart,
-/// that together with the vertex's mask have exactly the bits of `all`. Many vertices are shared
-/// among threads.
-pub fn partner_counts<R: Threads + Sync>(
+/// How many partners each vertex has: candidates that together with the vertex's mask have exactly
+/// all bits. Many vertices are shared among threads.
+pub(crate) fn partner_counts<R: Threads + Sync>(
     rt: &R,
     alloc: Global,
     first: &[Vertex],
-    all: [u64; 2],
-    low: &[u64],
-    high: &[u64],
+    candidates: &Candidates,
 ) -> Result<Vec<usize>, Memory>
-    requires { length high.now ≡ length low.now }
-    ensures { IfOk result (λ counts. counts.items
-        ≡ map (λ vertex. partner_count vertex.mask all low.now high.now) first.now) }
+    ensures { let c = candidates.now in IfOk result (λ counts. counts.items
+        ≡ map (λ vertex. partner_count vertex.mask c.all c.low.now c.high.now) first.now) }
 {
-    let unions = unions(alloc, low)?;
+    let unions = unions(alloc, candidates.low)?;
     let unions = unions.as_slice();
     let counts = first
         .par_iter()
-        .with_min_len(PAIRS_PER_THREAD / low.len().max(1))
+        .with_min_len(PAIRS_PER_THREAD / candidates.low.len().max(1))
         .map(
             |vertex: &Vertex| -> usize
-                requires high { length high.now ≡ length low.now }
-                requires unions { AreUnions low.now unions.now }
-                ensures { result
-                    ≡ partner_count vertex.now.mask all low.entry.now high.entry.now }
-            { partner_count(vertex.mask, all, unions, low, high) },
+                requires { AreUnions candidates.now.low.now unions.now }
+                ensures { let c = candidates.entry.now in
+                    result ≡ partner_count vertex.now.mask c.all c.low.now c.high.now }
+            { partner_count(vertex.mask, candidates, unions) },
         )
         .collect(rt, alloc)?;
     Ok(counts)

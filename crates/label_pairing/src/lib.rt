@@ -4,7 +4,8 @@
 //! where they pass it; `scale` divides a point by the sum of its entries.
 //! Definitions: `specs::Pairs` has the pairs of marked points, `Matches` the masks that complete a
 //! mask, `Scaling` the steps of scaling, `Stops` what is answered.
-//! Private words: the module `counting`, which counts the pairs before they are listed.
+//! Private words: the modules `candidates`, the masks among which partners are looked for, and
+//! `counting`, which counts the pairs before they are listed.
 //! Lemmas for callers: `proofs::AllPairLemmas` and `RowLemmas` on the list of pairs; `StopLemmas`
 //! on the answers.
 //! A change here touches: `enummixed`, the limit on pairs and the counts of `make`.
@@ -12,6 +13,7 @@
 
 ghost use Rattle.label_pairing.specs.Laws.{PairsAreExactlyThose, PairsAreSingle};
 
+mod candidates;
 mod counting;
 mod matching;
 mod pairing;
@@ -26,7 +28,7 @@ pub fn pairs_are_exactly_those()
     ensures { PairsAreExactlyThose }
 {}
 
-/// Two lists have one list of pairs, or too many.
+/// Two lists have one answer at most: their list of pairs, or that there are too many.
 pub fn pairs_are_single()
     ensures { PairsAreSingle }
 {}

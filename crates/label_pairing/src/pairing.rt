@@ -8,6 +8,7 @@ ghost use Rattle.label_pairing.specs.Pairs.{all_pairs};
 ghost use Rattle.label_pairing.specs.Stops.{pairs_in};
 ghost use Rattle.label_pairing.specs.declared.pairing.PairStop.TheVariants as stops;
 
+use crate::candidates::Candidates;
 use crate::counting::{pair_count, partner_counts};
 use crate::matching::matches;
 use basis_enum::Vertex;
@@ -82,58 +83,51 @@ fn push_partners(
     pairs: &mut Vec<(u32, u32)>,
     i: u32,
     mask: [u64; 2],
-    all: [u64; 2],
-    low: &[u64],
-    high: &[u64],
+    candidates: &Candidates,
     count: usize,
     found: &mut [bool],
 ) -> Result<(), Memory>
-    requires few { length low.now < 2 ^ 32 }
-    requires high { length high.now ≡ length low.now }
-    requires found { length found.old ≡ length low.now }
-    requires count { count ≡ partner_count mask all low.now high.now }
-    ensures room { length found.new ≡ length low.now }
-    ensures pairs { OnOk result (pairs.new.items
-        ≡ pairs.old.items ++ partner_pairs i mask all low.now high.now) }
+    requires few { length candidates.now.low.now < 2 ^ 32 }
+    requires found { length found.old ≡ length candidates.now.low.now }
+    requires count { let c = candidates.now in
+        count ≡ partner_count mask c.all c.low.now c.high.now }
+    ensures room { length found.new ≡ length candidates.now.low.now }
+    ensures pairs { let c = candidates.now in OnOk result (pairs.new.items
+        ≡ pairs.old.items ++ partner_pairs i mask c.all c.low.now c.high.now) }
 {
     if count == 0 {
         return Ok(());
     }
-    matches(mask, all, low, high, found);
+    matches(mask, candidates.all, candidates.low, candidates.high, found);
     push_found(pairs, i, found)
 }
 
-// The pairs of vertices, which have so many partners, with masks whose words these are, in room for
-// so many pairs.
+// The pairs of vertices, which have so many partners among the candidates, in room for so many
+// pairs.
 fn collected(
     alloc: Global,
     first: &[Vertex],
-    all: [u64; 2],
-    low: &[u64],
-    high: &[u64],
+    candidates: &Candidates,
     counts: &[usize],
     room: usize,
 ) -> Result<Vec<(u32, u32)>, Memory>
     requires few_first { length first.now < 2 ^ 32 }
-    requires few_second { length low.now < 2 ^ 32 }
-    requires high { length high.now ≡ length low.now }
-    requires counts { counts.now
-        ≡ map (λ vertex. partner_count vertex.mask all low.now high.now) first.now }
-    ensures { IfOk result (λ pairs. (second : List MarkedPoint) → AreWords second low.now high.now
-        → pairs.items ≡ all_pairs all (marks_of first.now) second) }
+    requires few_second { length candidates.now.low.now < 2 ^ 32 }
+    requires counts { let c = candidates.now in counts.now
+        ≡ map (λ vertex. partner_count vertex.mask c.all c.low.now c.high.now) first.now }
+    ensures { let c = candidates.now in IfOk result (λ pairs. (second : List MarkedPoint)
+        → AreWords second c.low.now c.high.now
+        → pairs.items ≡ all_pairs c.all (marks_of first.now) second) }
 {
-    let mut found = vec![in alloc; false; low.len()]?;
+    let mut found = vec![in alloc; false; candidates.low.len()]?;
     let mut pairs = Vec::with_capacity(alloc, room)?;
     for i in 0..first.len() {
-        let count = counts[i];
         push_partners(
             &mut pairs,
             i as u32,
             first[i].mask,
-            all,
-            low,
-            high,
-            count,
+            candidates,
+            counts[i],
             &mut found,
         )?;
     }
@@ -163,8 +157,13 @@ pub fn pairs<R: Threads + Sync>(
 {
     let low = words(alloc, second, 0)?;
     let high = words(alloc, second, 1)?;
-    let counts = partner_counts(rt, alloc, first, all, &low, &high)?;
+    let candidates = Candidates {
+        all,
+        low: &low,
+        high: &high,
+    };
+    let counts = partner_counts(rt, alloc, first, &candidates)?;
     let count = pair_count(&counts);
     TooLarge::within(What::Pairs, MOST_PAIRS, count as u64)?;
-    Ok(collected(alloc, first, all, &low, &high, &counts, count)?)
+    Ok(collected(alloc, first, &candidates, &counts, count)?)
 }

@@ -58,30 +58,30 @@ module _ (n : ℕ) (M : ℕ → ℕ → ℚ) (b : ℕ → ℚ) (t : Tableau) (R 
       meet i (inr e) = ap (λ x. basic_solution t (w_of i) *ℚ x) (value_out t R.reached.proper (z_of n i) e) ∙ ring rational_ring (basic_solution t (w_of i) ∷ []) (A :* num 0) (num 0) refl
 
   -- ---- a column with no positive entry, at a basis that lacks one pair
-  module _ (c col : ℕ) (hc : col < t.width) (c_is : t.nonbasic col ≡ c) (a : Almost (labels n) (is_basic t) c) (none : (i : ℕ) → i < n → t.cell i col ≤ℚ zero_ℚ) where
-    out_c : (v : ℕ) → is_basic t v ≡ false → v ≢ c → direction t col v ≡ zero_ℚ
-    out_c v e ne = direction_out t R.reached.proper col v e ∙ unit_other (t.nonbasic col) v (λ q. ne (q ∙ c_is))
+  module _ (c column : ℕ) (hc : column < t.width) (c_is : t.nonbasic column ≡ c) (a : Almost (labels n) (is_basic t) c) (none : (i : ℕ) → i < n → t.cell i column ≤ℚ zero_ℚ) where
+    out_c : (v : ℕ) → is_basic t v ≡ false → v ≢ c → direction t column v ≡ zero_ℚ
+    out_c v e ne = direction_out t R.reached.proper column v e ∙ unit_other (t.nonbasic column) v (λ q. ne (q ∙ c_is))
 
-    at_c : direction t col c ≡ one_ℚ
-    at_c = ap (direction t col) (sym c_is) ∙ direction_self t R.reached.proper col hc
+    at_c : direction t column c ≡ one_ℚ
+    at_c = ap (direction t column) (sym c_is) ∙ direction_self t R.reached.proper column hc
 
-    direction_sign : (v : ℕ) → zero_ℚ ≤ℚ direction t col v
+    direction_sign : (v : ℕ) → zero_ℚ ≤ℚ direction t column v
     direction_sign v = go (is_basic t v) refl
       where
-        go : (y : Bool) → is_basic t v ≡ y → zero_ℚ ≤ℚ direction t col v
-        go true e = let w = basic_which t v e in linear (direction t col v ∷ t.cell (row_of t v) col ∷ []) ((at 0 ⟨=⟩ minus (at 1)) ∷ (at 1 ⟨≤⟩ lit (pos 0)) ∷ []) (lit (pos 0) ⟨≤⟩ at 0) (λ one z p h. omega (arith, ints)) (ap (direction t col) (sym w.1) ∙ direction_basic t R.reached.proper col (row_of t v) hc w.0, (none (row_of t v) (row_out n M b t R.reached (row_of t v) w.0), tt))
-        go false e = subst (λ x. zero_ℚ ≤ℚ x) (sym (direction_out t R.reached.proper col v e)) (unit_nonneg (t.nonbasic col) v)
+        go : (y : Bool) → is_basic t v ≡ y → zero_ℚ ≤ℚ direction t column v
+        go true e = let w = basic_which t v e in linear (direction t column v ∷ t.cell (row_of t v) column ∷ []) ((at 0 ⟨=⟩ minus (at 1)) ∷ (at 1 ⟨≤⟩ lit (pos 0)) ∷ []) (lit (pos 0) ⟨≤⟩ at 0) (λ one z p h. omega (arith, ints)) (ap (direction t column) (sym w.1) ∙ direction_basic t R.reached.proper column (row_of t v) hc w.0, (none (row_of t v) (row_out n M b t R.reached (row_of t v) w.0), tt))
+        go false e = subst (λ x. zero_ℚ ≤ℚ x) (sym (direction_out t R.reached.proper column v e)) (unit_nonneg (t.nonbasic column) v)
 
-    way : (i : ℕ) → i < n → direction t col (w_of i) ≡ image n M (λ j. direction t col (z_of n j)) i +ℚ direction t col (z0_of n)
+    way : (i : ℕ) → i < n → direction t column (w_of i) ≡ image n M (λ j. direction t column (z_of n j)) i +ℚ direction t column (z0_of n)
     way i h =
-        combine rational_ring (direction t col (w_of i) ∷ basic_solution t (w_of i) ∷ b i ∷ image n M (λ j. basic_solution t (z_of n j)) i ∷ image n M (λ j. direction t col (z_of n j)) i ∷ basic_solution t (z0_of n) ∷ direction t col (z0_of n) ∷ image n M (λ j. basic_solution t (z_of n j) +ℚ direction t col (z_of n j)) i ∷ []) ((num 1 times B :+ A is C :+ H :+ (F :+ G)) ∷ (num 1 times H is D :+ E) ∷ (:neg (num 1) times B is C :+ D :+ F) ∷ []) A (E :+ G) refl (solves_start n M b (λ v. basic_solution t v +ℚ direction t col v) (solves_back n M b t R.reached _ both) i h, (dot-two n (M i) (λ j. basic_solution t (z_of n j)) (λ j. direction t col (z_of n j)), (point i h, tt)))
+        combine rational_ring (direction t column (w_of i) ∷ basic_solution t (w_of i) ∷ b i ∷ image n M (λ j. basic_solution t (z_of n j)) i ∷ image n M (λ j. direction t column (z_of n j)) i ∷ basic_solution t (z0_of n) ∷ direction t column (z0_of n) ∷ image n M (λ j. basic_solution t (z_of n j) +ℚ direction t column (z_of n j)) i ∷ []) ((num 1 times B :+ A is C :+ H :+ (F :+ G)) ∷ (num 1 times H is D :+ E) ∷ (:neg (num 1) times B is C :+ D :+ F) ∷ []) A (E :+ G) refl (solves_start n M b (λ v. basic_solution t v +ℚ direction t column v) (solves_back n M b t R.reached _ both) i h, (dot-two n (M i) (λ j. basic_solution t (z_of n j)) (λ j. direction t column (z_of n j)), (point i h, tt)))
       where
-        both : Solves t (λ v. basic_solution t v +ℚ direction t col v)
-        both i h = left_add t (basic_solution t) (direction t col) i ∙ ap₂ (λ x y. x +ℚ y) (solution_solves t R.reached.proper i h) (direction_level t R.reached.proper col i hc h) ∙ ring rational_ring (t.right i ∷ []) (A :+ num 0) A refl
+        both : Solves t (λ v. basic_solution t v +ℚ direction t column v)
+        both i h = left_add t (basic_solution t) (direction t column) i ∙ ap₂ (λ x y. x +ℚ y) (solution_solves t R.reached.proper i h) (direction_level t R.reached.proper column i hc h) ∙ ring rational_ring (t.right i ∷ []) (A :+ num 0) A refl
 
     -- of a pair one variable is 0 at the point and in the direction
     abbrev Off : ℕ → Type 0
-    Off v = (basic_solution t v ≡ zero_ℚ) × (direction t col v ≡ zero_ℚ)
+    Off v = (basic_solution t v ≡ zero_ℚ) × (direction t column v ≡ zero_ℚ)
 
     off : (v : ℕ) → is_basic t v ≡ false → v ≢ c → Off v
     off v e ne = (value_out t R.reached.proper v e, out_c v e ne)
@@ -113,7 +113,7 @@ module _ (n : ℕ) (M : ℕ → ℕ → ℚ) (b : ℕ → ℚ) (t : Tableau) (R 
     zero_product x y i (inr e) = ap (λ z. x (w_of i) *ℚ z) e ∙ ring rational_ring (x (w_of i) ∷ []) (A :* num 0) (num 0) refl
 
     -- where the direction has no z, the basis has z0 and all w but c
-    all_w : ((i : ℕ) → i < n → direction t col (z_of n i) ≡ zero_ℚ) → (k : ℕ) × (k < n) × (c ≡ w_of k) × ((v : ℕ) → is_basic t v ≡ basis_without n k v)
+    all_w : ((i : ℕ) → i < n → direction t column (z_of n i) ≡ zero_ℚ) → (k : ℕ) × (k < n) × (c ≡ w_of k) × ((v : ℕ) → is_basic t v ≡ basis_without n k v)
     all_w zs = (c - 1, c_w.0, c_w.1, same)
       where
         one_zero : one_ℚ ≡ zero_ℚ → ⊥
@@ -124,18 +124,18 @@ module _ (n : ℕ) (M : ℕ → ℕ → ℚ) (b : ℕ → ℚ) (t : Tableau) (R 
           where
             go : Which n c → (c - 1 < n) × (c ≡ w_of (c - 1))
             go (inl h) = let p = h.0 in let q = h.1 in (omega arith, omega arith)
-            go (inr (inl h)) = let l = h.0 in let u = h.1 in let e : z_of n (c - suc n) ≡ c = omega arith in absurd (one_zero (sym at_c ∙ ap (direction t col) (sym e) ∙ zs (c - suc n) (omega arith)))
+            go (inr (inl h)) = let l = h.0 in let u = h.1 in let e : z_of n (c - suc n) ≡ c = omega arith in absurd (one_zero (sym at_c ∙ ap (direction t column) (sym e) ∙ zs (c - suc n) (omega arith)))
             go (inr (inr h)) = absurd (a.paired (complement_neither n c h))
 
-        flat : (i : ℕ) → i < n → direction t col (w_of i) ≡ direction t col (z0_of n)
-        flat i h = way i h ∙ ap (λ x. x +ℚ direction t col (z0_of n)) (sum_to-zeros n _ (λ j k. ap (λ x. M i j *ℚ x) (zs j k) ∙ ring rational_ring (M i j ∷ []) (A :* num 0) (num 0) refl)) ∙ ring rational_ring (direction t col (z0_of n) ∷ []) (num 0 :+ A) A refl
+        flat : (i : ℕ) → i < n → direction t column (w_of i) ≡ direction t column (z0_of n)
+        flat i h = way i h ∙ ap (λ x. x +ℚ direction t column (z0_of n)) (sum_to-zeros n _ (λ j k. ap (λ x. M i j *ℚ x) (zs j k) ∙ ring rational_ring (M i j ∷ []) (A :* num 0) (num 0) refl)) ∙ ring rational_ring (direction t column (z0_of n) ∷ []) (num 0 :+ A) A refl
 
         basic_others : (i : ℕ) → i < n → w_of i ≢ c → is_basic t (w_of i) ≡ true
         basic_others i h ne = go (is_basic t (w_of i)) refl
           where
             go : (y : Bool) → is_basic t (w_of i) ≡ y → is_basic t (w_of i) ≡ true
             go true e = e
-            go false e = absurd (one_zero (sym at_c ∙ ap (direction t col) c_w.1 ∙ flat (c - 1) c_w.0 ∙ sym (flat i h) ∙ out_c (w_of i) e ne))
+            go false e = absurd (one_zero (sym at_c ∙ ap (direction t column) c_w.1 ∙ flat (c - 1) c_w.0 ∙ sym (flat i h) ∙ out_c (w_of i) e ne))
 
         pc : complement n c ≡ z_of n (c - 1)
         pc = ap (complement n) c_w.1 ∙ complement_of_w n (c - 1) c_w.0
@@ -163,7 +163,7 @@ module _ (n : ℕ) (M : ℕ → ℕ → ℚ) (b : ℕ → ℚ) (t : Tableau) (R 
             go (inr (inr (inr h))) (inr ne) (inr d) = let k = h in basic_past n M b t R.reached v (omega (arith, d)) ∙ sym (without_z n (c - 1) c_w.0 v (omega arith) d)
 
     -- a ray, but for what it has to say of u
-    pub ray : zero_ℚ <ℚ basic_solution t (z0_of n) → (((i : ℕ) → i < n → direction t col (z_of n i) ≡ zero_ℚ) → ⊥) → IsRayAt n M b t col
+    pub ray : zero_ℚ <ℚ basic_solution t (z0_of n) → (((i : ℕ) → i < n → direction t column (z_of n i) ≡ zero_ℚ) → ⊥) → IsRayAt n M b t column
     ray up some =
         record {
           point = point;
@@ -176,9 +176,9 @@ module _ (n : ℕ) (M : ℕ → ℕ → ℚ) (b : ℕ → ℚ) (t : Tableau) (R 
           u0_sign = direction_sign (z0_of n);
           u_some = some;
           wz = λ i h. zero_product (basic_solution t) (basic_solution t) i (elim (one_off i h) [ inl o ↦ inl o.0 | inr o ↦ inr o.0 ]);
-          wu = λ i h. zero_product (basic_solution t) (direction t col) i (elim (one_off i h) [ inl o ↦ inl o.0 | inr o ↦ inr o.1 ]);
-          vz = λ i h. zero_product (direction t col) (basic_solution t) i (elim (one_off i h) [ inl o ↦ inl o.1 | inr o ↦ inr o.0 ]);
-          vu = λ i h. zero_product (direction t col) (direction t col) i (elim (one_off i h) [ inl o ↦ inl o.1 | inr o ↦ inr o.1 ]);
+          wu = λ i h. zero_product (basic_solution t) (direction t column) i (elim (one_off i h) [ inl o ↦ inl o.0 | inr o ↦ inr o.1 ]);
+          vz = λ i h. zero_product (direction t column) (basic_solution t) i (elim (one_off i h) [ inl o ↦ inl o.1 | inr o ↦ inr o.0 ]);
+          vu = λ i h. zero_product (direction t column) (direction t column) i (elim (one_off i h) [ inl o ↦ inl o.1 | inr o ↦ inr o.1 ]);
         }
 
 -- ---- the path
@@ -187,12 +187,12 @@ module _ (n : ℕ) (M : ℕ → ℕ → ℚ) (b : ℕ → ℚ) (r : ℕ) (fr : I
   abbrev pub OnPath : Tableau → ℕ → List (ℕ → Bool) → Type 0
   OnPath t c earlier = At (pivots n M b) (labels n) (beginning n M b r fr) t c earlier
 
-  pub path_ray : (t : Tableau) (c col : ℕ) (earlier : List (ℕ → Bool)) → OnPath t c earlier → HasPositiveKeys n M b t → col < t.width → t.nonbasic col ≡ c → ((i : ℕ) → i < n → t.cell i col ≤ℚ zero_ℚ) → zero_ℚ <ℚ basic_solution t (z0_of n) → IsRayAt n M b t col
+  pub path_ray : (t : Tableau) (c column : ℕ) (earlier : List (ℕ → Bool)) → OnPath t c earlier → HasPositiveKeys n M b t → column < t.width → t.nonbasic column ≡ c → ((i : ℕ) → i < n → t.cell i column ≤ℚ zero_ℚ) → zero_ℚ <ℚ basic_solution t (z0_of n) → IsRayAt n M b t column
   unfolding beginning
-  path_ray t c col earlier o R hc c_is none up = ray n M b t R c col hc c_is o.almost none up some
+  path_ray t c column earlier o R hc c_is none up = ray n M b t R c column hc c_is o.almost none up some
     where
-      some : ((i : ℕ) → i < n → direction t col (z_of n i) ≡ zero_ℚ) → ⊥
-      some zs = go (all_w n M b t R c col hc c_is o.almost none zs)
+      some : ((i : ℕ) → i < n → direction t column (z_of n i) ≡ zero_ℚ) → ⊥
+      some zs = go (all_w n M b t R c column hc c_is o.almost none zs)
         where
           here : (k : ℕ) → k < n → c ≡ w_of k → ((v : ℕ) → is_basic t v ≡ basis_without n k v) → (k ≡ r) ⊎ (k ≢ r) → ⊥
           here k h q same (inl e) = absurd (omega (arith, sym (at_first (pivots n M b) (labels n) (beginning n M b r fr) t c earlier o (λ v. same v ∙ ap (λ s. basis_without n s v) e ∙ sym (first_basis n M b r fr v))), q, e, fr.is_least.within))
@@ -202,8 +202,8 @@ module _ (n : ℕ) (M : ℕ → ℕ → ℚ) (b : ℕ → ℚ) (r : ℕ) (fr : I
           go w = here w.0 w.1 w.2 w.3 (cases_eq w.0 r)
 
   -- where the problem excludes rays, some row has a positive entry
-  pub path_goes_on : (t : Tableau) (c col : ℕ) (earlier : List (ℕ → Bool)) → ExcludesRays n M b → OnPath t c earlier → HasPositiveKeys n M b t → col < t.width → t.nonbasic col ≡ c → zero_ℚ <ℚ basic_solution t (z0_of n) → ((i : ℕ) → i < n → t.cell i col ≤ℚ zero_ℚ) → ⊥
-  path_goes_on t c col earlier cop o R hc c_is up none = no_ray n M b _ _ _ _ (basic_solution t (z0_of n)) (direction t col (z0_of n)) cop (path_ray t c col earlier o R hc c_is none up)
+  pub path_goes_on : (t : Tableau) (c column : ℕ) (earlier : List (ℕ → Bool)) → ExcludesRays n M b → OnPath t c earlier → HasPositiveKeys n M b t → column < t.width → t.nonbasic column ≡ c → zero_ℚ <ℚ basic_solution t (z0_of n) → ((i : ℕ) → i < n → t.cell i column ≤ℚ zero_ℚ) → ⊥
+  path_goes_on t c column earlier cop o R hc c_is up none = no_ray n M b _ _ _ _ (basic_solution t (z0_of n)) (direction t column (z0_of n)) cop (path_ray t c column earlier o R hc c_is none up)
 
   -- no pair is basic with both variables
   path_pairs : (t : Tableau) (c : ℕ) (earlier : List (ℕ → Bool)) → OnPath t c earlier → (i : ℕ) → i < n → (is_basic t (w_of i) ≡ false) ⊎ (is_basic t (z_of n i) ≡ false)

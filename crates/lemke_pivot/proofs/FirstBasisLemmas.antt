@@ -272,7 +272,7 @@ module _ (n : ℕ) (M : ℕ → ℕ → ℚ) (b : ℕ → ℚ) (r : ℕ) (fr : I
         first = first;
         enters = z_of n r;
         almost = subst (λ f. Almost (labels n) f (z_of n r)) (sym (fun_ext first_basis)) (almost_without n r fr.is_least.within);
-        dead = λ t t' l same e. minus_one (subst (λ x. zero_ℚ <ℚ x) (cell_is n M b r fr.is_least.within t e.0.reached (λ v. same v ∙ first_basis v) e.1.col e.1.col_in (e.1.c_is ∙ complement_of_z n r fr.is_least.within) e.1.row (row_in n M b t e.0.reached e.1.row e.1.chosen.within)) e.1.chosen.positive);
+        dead = λ t t' l same e. minus_one (subst (λ x. zero_ℚ <ℚ x) (cell_is n M b r fr.is_least.within t e.0.reached (λ v. same v ∙ first_basis v) e.1.column e.1.column_in (e.1.c_is ∙ complement_of_z n r fr.is_least.within) e.1.row (row_in n M b t e.0.reached e.1.row e.1.chosen.within)) e.1.chosen.positive);
       }
 
 -- a tableau in memory need agree only where it has cells

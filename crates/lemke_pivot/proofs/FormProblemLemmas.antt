@@ -1,4 +1,5 @@
 -- What the stages of a form's problem give together.
+use Rattle.sequence_data.specs.Sizes.{form_sizes, problem_rows}
 use Rattle.std.proofs.Common.{◌<◌, ◌≡◌, inl, inr, Result, Ok, Err, refl, ap, ap₂, subst, arith}
 use Rattle.answers.specs.Answers.{Answer, Gives, ◌>>◌, refused_by}
 use Rattle.answers.proofs.AnswerLemmas.{gives_bind, gives_first}
@@ -15,27 +16,27 @@ use Rattle.sequence_forms.specs.Prices.{costs}
 use Rattle.sequence_data.specs.Data.{FormData, form, side_of}
 use Rattle.lemke_pivot.specs.declared.stop.LcpStop.{LcpStop}
 use Rattle.lemke_pivot.specs.declared.stop.LcpStop.TheVariants as stops
-use Rattle.lemke_pivot.specs.FormProblems.{IsSystemOf, ProblemsAreOfForms, costs_in, form_size, problem_in, form_start_in, told_start, with_start}
+use Rattle.lemke_pivot.specs.FormProblems.{IsSystemOf, ProblemsAreOfForms, costs_in, problem_in, form_start_in, told_start, with_start}
 use Rattle.lemke_pivot.specs.Parts.{IsProblem, IsProblemOfForm, IsStartFor, Problem, start_tableau}
 use Rattle.lemke_pivot.proofs.FormSystemLemmas.{for_sides}
 use Rattle.lemke_pivot.proofs.PathStartLemmas.{starts_for}
 
 module _ (f : FormData) where
   abbrev size_stage : Answer LcpStop (Unit {0})
-  size_stage = refused_by stops.TooLarge (within what.Rows most_rows (form_size f))
+  size_stage = refused_by stops.TooLarge (within what.Rows most_rows (problem_rows (form_sizes f)))
 
   abbrev cost_stage : Answer LcpStop (Unit {0})
   cost_stage = costs_in f.greatest_one f.greatest_two f.cells
 
-  pub size_stop : (limit : TooLarge) → within what.Rows most_rows (form_size f) (Err limit) → Gives stops.Memory (problem_in f) (Err (stops.TooLarge limit))
+  pub size_stop : (limit : TooLarge) → within what.Rows most_rows (problem_rows (form_sizes f)) (Err limit) → Gives stops.Memory (problem_in f) (Err (stops.TooLarge limit))
   size_stop limit h =
       gives_first {Z = Problem} stops.Memory size_stage (λ _. cost_stage >> form_start_in f) (stops.TooLarge limit) (inr (limit, h, refl))
 
-  pub costs_stop : (few : most_rows < form_size f → ⊥) (r : LcpStop) → Gives stops.Memory cost_stage (Err r) → Gives stops.Memory (problem_in f) (Err r)
+  pub costs_stop : (few : most_rows < problem_rows (form_sizes f) → ⊥) (r : LcpStop) → Gives stops.Memory cost_stage (Err r) → Gives stops.Memory (problem_in f) (Err r)
   costs_stop few r g =
       gives_bind {Z = Problem} stops.Memory size_stage (λ _. cost_stage >> form_start_in f) tt (Err r) few (gives_first {Z = Problem} stops.Memory cost_stage (λ _. form_start_in f) r g)
 
-  pub start_gives : (few : most_rows < form_size f → ⊥) (answer : Result Problem LcpStop) → cost_stage (Ok tt) → Gives stops.Memory (form_start_in f) answer → Gives stops.Memory (problem_in f) answer
+  pub start_gives : (few : most_rows < problem_rows (form_sizes f) → ⊥) (answer : Result Problem LcpStop) → cost_stage (Ok tt) → Gives stops.Memory (form_start_in f) answer → Gives stops.Memory (problem_in f) answer
   start_gives few answer h g =
       gives_bind {Z = Problem} stops.Memory size_stage (λ _. cost_stage >> form_start_in f) tt answer few (gives_bind {Z = Problem} stops.Memory cost_stage (λ _. form_start_in f) tt answer h g)
 

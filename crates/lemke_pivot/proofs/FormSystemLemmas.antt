@@ -1,4 +1,5 @@
 -- The system of a form's problem has the form's costs.
+use Rattle.sequence_data.specs.Sizes.{form_sizes, problem_rows}
 use Rattle.std.proofs.Common.{ℕ, ◌<◌, ◌≤◌, ◌≡◌, ◌+◌, ◌*◌, ◌-◌, ◌^◌, inl, inr, Bool, true, false, cond, eqb, List, [], ◌∷◌, All, Result, map, get_or, refl, sym, ap, ◌∙◌, subst, subst₂, arith, tests}
 use Rattle.std.specs.Prelude.{◌==◌, ◌&&◌, if◌then◌else◌, IfOk}
 use Rattle.std.proofs.Math.Nat.{mul-le-mul_right}
@@ -20,7 +21,7 @@ use Rattle.sequence_data.specs.declared.types.Cell.{Cell}
 use Rattle.sequence_data.specs.Data.{FormData, IsFormData, LeafFits, SideData, form, side_of}
 use Rattle.sequence_data.proofs.GainLemmas.{costs_positive_one, costs_positive_two}
 use Rattle.sequence_data.specs.Matrices.{IsInside, placed, HoldsNumbers, number_at}
-use Rattle.lemke_pivot.specs.FormProblems.{IsSystemOf, cost_at, cost_one, cost_two, form_size}
+use Rattle.lemke_pivot.specs.FormProblems.{IsSystemOf, cost_at, cost_one, cost_two}
 use Rattle.lemke_pivot.specs.Parts.{start_tableau}
 use Rattle.lemke_pivot.specs.ProblemLaws.{CostSumsAreNotNegative}
 use Rattle.lemke_pivot.specs.Systems.{IsSystemFor}
@@ -91,7 +92,7 @@ module _ (f : FormData) (valid : IsFormData f) where
   second_count : f.second.sequences ≡ sequences (side_of f.second)
   second_count = valid.second_is.sequences_are
 
-  pub few_costs : form_size f ≤ most_rows → f.first.sequences * f.second.sequences < 2 ^ 32
+  pub few_costs : problem_rows (form_sizes f) ≤ most_rows → f.first.sequences * f.second.sequences < 2 ^ 32
   few_costs few =
       let x : f.first.sequences ≤ 512 = omega (arith, few, first_count) in
       let y : f.second.sequences ≤ 512 = omega (arith, few, second_count) in

@@ -85,28 +85,28 @@ module _ (n r : ℕ) (m : WholeTableau) (S : IsPathStart n r m) where
       walk_variable i h = basic_is_variable n S.matrix S.right r S.first (map tableau o.earlier) (tableau t) c i path ne (subst (λ k. i < k) (sym rows_are) h)
 
       -- the row that the tableau finds is the path's
-      pub walk_best : (t₁ : WholeTableau) (col row : ℕ) → t₁ ≡ t → IsLeavingRow t₁ col row → IsLexicographicRow n n w_of (tableau t) col row
-      walk_best t₁ col row e B =
-          let L : IsLeavingRow t col row = subst (λ m. IsLeavingRow m col row) e B in
-          lex_row_by n n (variable_at t.starts) w_of (tableau t) col row (λ q h. ap (λ s. get_or s q 0) o.starts ∙ S.starts q h)
-          (subst (λ k. IsLexicographicRow k k (variable_at t.starts) (tableau t) col row) o.rated L)
+      pub walk_best : (t₁ : WholeTableau) (column row : ℕ) → t₁ ≡ t → IsLeavingRow t₁ column row → IsLexicographicRow n n w_of (tableau t) column row
+      walk_best t₁ column row e B =
+          let L : IsLeavingRow t column row = subst (λ m. IsLeavingRow m column row) e B in
+          lex_row_by n n (variable_at t.starts) w_of (tableau t) column row (λ q h. ap (λ s. get_or s q 0) o.starts ∙ S.starts q h)
+          (subst (λ k. IsLexicographicRow k k (variable_at t.starts) (tableau t) column row) o.rated L)
 
-      pub walk_never : (t₁ : WholeTableau) (col : ℕ) → t₁ ≡ t → IsNonbasicColumn t c (Some col) → IsRatioRow t₁ col None → ⊥
-      walk_never t₁ col e h none =
-          let w = leaving_row n S.matrix S.right r S.first (map tableau o.earlier) (tableau t) c col S.excludes_rays path ne h.0 h.1 in
-          not_lt_of_le ((tableau t).cell w.0 col) zero_ℚ (subst (λ m. IsRatioRow m col None) e none w.0 (subst (λ k. w.0 < k) (sym o.rated) w.1.within)) w.1.positive
+      pub walk_never : (t₁ : WholeTableau) (column : ℕ) → t₁ ≡ t → IsNonbasicColumn t c (Some column) → IsRatioRow t₁ column None → ⊥
+      walk_never t₁ column e h none =
+          let w = leaving_row n S.matrix S.right r S.first (map tableau o.earlier) (tableau t) c column S.excludes_rays path ne h.0 h.1 in
+          not_lt_of_le ((tableau t).cell w.0 column) zero_ℚ (subst (λ m. IsRatioRow m column None) e none w.0 (subst (λ k. w.0 < k) (sym o.rated) w.1.within)) w.1.positive
 
-      module _ (col row : ℕ) (h : IsNonbasicColumn t c (Some col)) (L : IsLexicographicRow n n w_of (tableau t) col row) where
-        pub walk_next : (t' : WholeTableau) (c' later number : ℕ) → IsFittingPivot t row col t' → c' ≡ complement n ((tableau t).basic row) → later ≡ now + 1 → number ≡ pivot_number (suc (suc (length o.earlier))) → OnWalk n r m t' c' from later number
+      module _ (column row : ℕ) (h : IsNonbasicColumn t c (Some column)) (L : IsLexicographicRow n n w_of (tableau t) column row) where
+        pub walk_next : (t' : WholeTableau) (c' later number : ℕ) → IsFittingPivot t row column t' → c' ≡ complement n ((tableau t).basic row) → later ≡ now + 1 → number ≡ pivot_number (suc (suc (length o.earlier))) → OnWalk n r m t' c' from later number
         walk_next t' c' later number p q g k =
             record {
               earlier = t ∷ o.earlier;
-              path = (c, (tableau t).basic row, o.path, ne, record { replaces = record { col = col; row = row; col_in = h.0; c_is = h.1; l_is = refl; chosen = L; to = p.pivot.fractions }; fitting = p }, q);
+              path = (c, (tableau t).basic row, o.path, ne, record { replaces = record { column = column; row = row; column_in = h.0; c_is = h.1; l_is = refl; chosen = L; to = p.pivot.fractions }; fitting = p }, q);
               counts = let a : from + suc (length o.earlier) ≡ now = o.counts in omega (arith, a, g);
               number = k;
               starts = p.pivot.starts ∙ o.starts;
               rated = p.pivot.rated ∙ o.rated;
             }
 
-        pub walk_stops : (number : ℕ) (u : Unfit) → number ≡ pivot_number (suc (suc (length o.earlier))) → IsFirstUnfit (steps_of_pivot t row col) u → EndsUnfit m n r (record { number = number; entering = c; unfit = u })
-        walk_stops number u k f = inr (o.earlier, t, record { path = o.path; goes_on = ne; col = col; row = row; col_in = h.0; entering_is = h.1; chosen = L; unfit = f; number = k })
+        pub walk_stops : (number : ℕ) (u : Unfit) → number ≡ pivot_number (suc (suc (length o.earlier))) → IsFirstUnfit (steps_of_pivot t row column) u → EndsUnfit m n r (record { number = number; entering = c; unfit = u })
+        walk_stops number u k f = inr (o.earlier, t, record { path = o.path; goes_on = ne; column = column; row = row; column_in = h.0; entering_is = h.1; chosen = L; unfit = f; number = k })

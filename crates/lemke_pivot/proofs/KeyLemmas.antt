@@ -85,37 +85,37 @@ module _ (n : ℕ) (M : ℕ → ℕ → ℚ) (b : ℕ → ℚ) where
   pub next_keys : (t t' : Tableau) (c l : ℕ) → Enters t c l t' → HasPositiveKeys n M b t'
   next_keys t t' c l e =
       record {
-        reached = reached_alike (suc (suc (n + n))) n (start n M b) (pivot t e.1.row e.1.col) t' (omega arith) e.1.to (reached_pivot (suc (suc (n + n))) n (start n M b) t e.1.row e.1.col (omega arith) e.1.chosen.within e.1.col_in (ne_zero_of_pos (t.cell e.1.row e.1.col) e.1.chosen.positive) e.0.reached);
-        positive = keys_stay_alike n w_of t t' e.1.col e.1.row (let q : t.rows ≡ n = e.0.reached.rows in omega arith) e.1.col_in e.1.chosen e.1.to e.0.positive;
+        reached = reached_alike (suc (suc (n + n))) n (start n M b) (pivot t e.1.row e.1.column) t' (omega arith) e.1.to (reached_pivot (suc (suc (n + n))) n (start n M b) t e.1.row e.1.column (omega arith) e.1.chosen.within e.1.column_in (ne_zero_of_pos (t.cell e.1.row e.1.column) e.1.chosen.positive) e.0.reached);
+        positive = keys_stay_alike n w_of t t' e.1.column e.1.row (let q : t.rows ≡ n = e.0.reached.rows in omega arith) e.1.column_in e.1.chosen e.1.to e.0.positive;
       }
 
   pub after : (t t' : Tableau) (c l : ℕ) → Enters t c l t' → (v : ℕ) → is_basic t' v ≡ swap (is_basic t) c l v
-  after t t' c l e v = sym (alike_basic (pivot t e.1.row e.1.col) t' e.1.to v) ∙ basic_swap t e.1.row e.1.col e.0.reached.proper (row_in n M b t e.0.reached e.1.row e.1.chosen.within) e.1.col_in v ∙ ap₂ (λ c l. swap (is_basic t) c l v) e.1.c_is e.1.l_is
+  after t t' c l e v = sym (alike_basic (pivot t e.1.row e.1.column) t' e.1.to v) ∙ basic_swap t e.1.row e.1.column e.0.reached.proper (row_in n M b t e.0.reached e.1.row e.1.chosen.within) e.1.column_in v ∙ ap₂ (λ c l. swap (is_basic t) c l v) e.1.c_is e.1.l_is
 
   pub back : (t t' : Tableau) (c l : ℕ) → Enters t c l t' → (t'' : Tableau) × Enters t' l c t''
-  back t t' c l e = (pivot t' e.1.row e.1.col, (next_keys t t' c l e, step))
+  back t t' c l e = (pivot t' e.1.row e.1.column, (next_keys t t' c l e, step))
     where
-      from : Alike (pivot t e.1.row e.1.col) t'
+      from : Alike (pivot t e.1.row e.1.column) t'
       from = e.1.to
 
       row_is : e.1.row < t.rows
       row_is = row_in n M b t e.0.reached e.1.row e.1.chosen.within
 
-      step : Replaces n t' l c (pivot t' e.1.row e.1.col)
+      step : Replaces n t' l c (pivot t' e.1.row e.1.column)
       step =
           record {
-            col = e.1.col;
+            column = e.1.column;
             row = e.1.row;
-            col_in = into_width (pivot t e.1.row e.1.col) t' from e.1.col e.1.col_in;
-            c_is = sym (from.nonbasic e.1.col e.1.col_in) ∙ nonbasic_c t e.1.row e.1.col ∙ e.1.l_is;
-            l_is = sym (from.basic e.1.row row_is) ∙ basic_r t e.1.row e.1.col ∙ e.1.c_is;
-            chosen = alike_lex_row n n w_of (pivot t e.1.row e.1.col) t' e.1.col e.1.row (let q : t.rows ≡ n = e.0.reached.rows in omega arith) e.1.col_in from (undone n w_of t e.1.col e.1.row e.1.col_in e.1.chosen e.0.positive);
-            to = alike_refl (pivot t' e.1.row e.1.col);
+            column_in = into_width (pivot t e.1.row e.1.column) t' from e.1.column e.1.column_in;
+            c_is = sym (from.nonbasic e.1.column e.1.column_in) ∙ nonbasic_c t e.1.row e.1.column ∙ e.1.l_is;
+            l_is = sym (from.basic e.1.row row_is) ∙ basic_r t e.1.row e.1.column ∙ e.1.c_is;
+            chosen = alike_lex_row n n w_of (pivot t e.1.row e.1.column) t' e.1.column e.1.row (let q : t.rows ≡ n = e.0.reached.rows in omega arith) e.1.column_in from (undone n w_of t e.1.column e.1.row e.1.column_in e.1.chosen e.0.positive);
+            to = alike_refl (pivot t' e.1.row e.1.column);
           }
 
   pub leaves : (t t' s s' : Tableau) (c l k : ℕ) → ((v : ℕ) → is_basic t v ≡ is_basic s v) → Enters t c l t' → Enters s c k s' → l ≡ k
   leaves t t' s s' c l k same e f =
-      sym e.1.l_is ∙ same_leaves (suc (suc (n + n))) n (start n M b) t s w_of refl (is_start n M b) e.0.reached f.0.reached same e.1.col f.1.col e.1.row f.1.row e.1.col_in f.1.col_in (e.1.c_is ∙ sym f.1.c_is) e.1.chosen f.1.chosen ∙ f.1.l_is
+      sym e.1.l_is ∙ same_leaves (suc (suc (n + n))) n (start n M b) t s w_of refl (is_start n M b) e.0.reached f.0.reached same e.1.column f.1.column e.1.row f.1.row e.1.column_in f.1.column_in (e.1.c_is ∙ sym f.1.c_is) e.1.chosen f.1.chosen ∙ f.1.l_is
 
   -- the tableaux of the problem, as the path takes them
   abbrev pub pivots : Pivots
@@ -124,7 +124,7 @@ module _ (n : ℕ) (M : ℕ → ℕ → ℚ) (b : ℕ → ℚ) where
         T = Tableau;
         basic = is_basic;
         Enters = Enters;
-        was_out = λ t t' c l e. ap (is_basic t) (sym e.1.c_is) ∙ nonbasic_no t e.0.reached.proper e.1.col e.1.col_in;
+        was_out = λ t t' c l e. ap (is_basic t) (sym e.1.c_is) ∙ nonbasic_no t e.0.reached.proper e.1.column e.1.column_in;
         was_in = λ t t' c l e. ap (is_basic t) (sym e.1.l_is) ∙ basic_yes t e.1.row (row_in n M b t e.0.reached e.1.row e.1.chosen.within);
         after = after;
         same_leaves = leaves;

@@ -36,15 +36,15 @@ module _ (n : ℕ) (s : WholeTableau) (v : IsTableau s) (c i j k l : ℕ) (hi : 
   same_row = lex_row_once n w_of (tableau s) j k l (subst (λ x. IsLexicographicRow n n w_of (tableau s) x k) same_column rk) rl
 
 module _ (n : ℕ) (s : WholeTableau) (v : IsTableau s) (c l k : ℕ) (t u : WholeTableau) (p : ReplacesExactly n s c l t) (q : ReplacesExactly n s c k u) where
-  column_is : p.replaces.col ≡ q.replaces.col
-  column_is = same_column n s v c p.replaces.col q.replaces.col p.replaces.row q.replaces.row p.replaces.col_in q.replaces.col_in p.replaces.c_is q.replaces.c_is p.replaces.chosen q.replaces.chosen
+  column_is : p.replaces.column ≡ q.replaces.column
+  column_is = same_column n s v c p.replaces.column q.replaces.column p.replaces.row q.replaces.row p.replaces.column_in q.replaces.column_in p.replaces.c_is q.replaces.c_is p.replaces.chosen q.replaces.chosen
 
   row_is : p.replaces.row ≡ q.replaces.row
-  row_is = same_row n s v c p.replaces.col q.replaces.col p.replaces.row q.replaces.row p.replaces.col_in q.replaces.col_in p.replaces.c_is q.replaces.c_is p.replaces.chosen q.replaces.chosen
+  row_is = same_row n s v c p.replaces.column q.replaces.column p.replaces.row q.replaces.row p.replaces.column_in q.replaces.column_in p.replaces.c_is q.replaces.c_is p.replaces.chosen q.replaces.chosen
 
   replaces_same : (t ≡ u) × (l ≡ k)
   replaces_same = (
-    pivot_once s t u q.replaces.row q.replaces.col p.fitting.is_tableau q.fitting.is_tableau (subst₂ (λ x y. IsPivotOf s x y t) row_is column_is p.fitting.pivot) q.fitting.pivot,
+    pivot_once s t u q.replaces.row q.replaces.column p.fitting.is_tableau q.fitting.is_tableau (subst₂ (λ x y. IsPivotOf s x y t) row_is column_is p.fitting.pivot) q.fitting.pivot,
     sym p.replaces.l_is ∙ ap (λ x. (tableau s).basic x) row_is ∙ q.replaces.l_is,
   )
 
@@ -98,9 +98,9 @@ module _ (m : WholeTableau) (n r : ℕ) where
   stop_ends stop earlier t a g =
       let s = path_same earlier g.earlier t g.before stop.entering g.enters a.path g.path (sym g.length_is) in
       let q : ReplacesExactly n t stop.entering g.leaves g.after = subst₂ (λ x y. ReplacesExactly n x y g.leaves g.after) (sym s.0) (sym s.1) g.step in
-      let col : q.replaces.col ≡ a.col = same_column n t (valid_at earlier t stop.entering a.path) stop.entering q.replaces.col a.col q.replaces.row a.row q.replaces.col_in a.col_in q.replaces.c_is a.entering_is q.replaces.chosen a.chosen in
-      let row : q.replaces.row ≡ a.row = same_row n t (valid_at earlier t stop.entering a.path) stop.entering q.replaces.col a.col q.replaces.row a.row q.replaces.col_in a.col_in q.replaces.c_is a.entering_is q.replaces.chosen a.chosen in
-      unfit_among (steps_of_pivot t a.row a.col) stop.unfit a.unfit (subst₂ (λ x y. All StepFits (steps_of_pivot t x y)) row col q.fitting.fits)
+      let column : q.replaces.column ≡ a.column = same_column n t (valid_at earlier t stop.entering a.path) stop.entering q.replaces.column a.column q.replaces.row a.row q.replaces.column_in a.column_in q.replaces.c_is a.entering_is q.replaces.chosen a.chosen in
+      let row : q.replaces.row ≡ a.row = same_row n t (valid_at earlier t stop.entering a.path) stop.entering q.replaces.column a.column q.replaces.row a.row q.replaces.column_in a.column_in q.replaces.c_is a.entering_is q.replaces.chosen a.chosen in
+      unfit_among (steps_of_pivot t a.row a.column) stop.unfit a.unfit (subst₂ (λ x y. All StepFits (steps_of_pivot t x y)) row column q.fitting.fits)
 
   solved_same : (t u : WholeTableau) → EndsSolved m n r t → EndsSolved m n r u → t ≡ u
   solved_same t u a b = elim (cases_lt (length a.0) (length b.0)) [
@@ -127,15 +127,15 @@ module _ (m : WholeTableau) (n r : ℕ) where
   stops_here : (stop : UnfitPivot) (ss : List WholeTableau) (t : WholeTableau) (last : UnfitPivot) (us : List WholeTableau) (u : WholeTableau) → StopsAt m n r stop ss t → StopsAt m n r last us u → length ss ≡ length us → stop ≡ last
   stops_here stop ss t last us u a b q =
       let s = path_same ss us t u stop.entering last.entering a.path b.path q in
-      let nonbasic : (tableau u).nonbasic a.col ≡ last.entering = sym (ap (λ (x : WholeTableau). (tableau x).nonbasic a.col) s.0) ∙ a.entering_is ∙ s.1 in
-      let col_in : a.col < (tableau u).width = subst (λ x. a.col < (tableau x).width) s.0 a.col_in in
-      let chosen : IsLexicographicRow n n w_of (tableau u) a.col a.row = subst (λ x. IsLexicographicRow n n w_of (tableau x) a.col a.row) s.0 a.chosen in
-      let col = same_column n u (valid_at us u last.entering b.path) last.entering a.col b.col a.row b.row col_in b.col_in nonbasic b.entering_is chosen b.chosen in
-      let row = same_row n u (valid_at us u last.entering b.path) last.entering a.col b.col a.row b.row col_in b.col_in nonbasic b.entering_is chosen b.chosen in
-      let here : IsFirstUnfit (steps_of_pivot u b.row b.col) stop.unfit = subst₂ (λ x y. IsFirstUnfit (steps_of_pivot u x y) stop.unfit) row col (subst (λ x. IsFirstUnfit (steps_of_pivot x a.row a.col) stop.unfit) s.0 a.unfit) in
+      let nonbasic : (tableau u).nonbasic a.column ≡ last.entering = sym (ap (λ (x : WholeTableau). (tableau x).nonbasic a.column) s.0) ∙ a.entering_is ∙ s.1 in
+      let column_in : a.column < (tableau u).width = subst (λ x. a.column < (tableau x).width) s.0 a.column_in in
+      let chosen : IsLexicographicRow n n w_of (tableau u) a.column a.row = subst (λ x. IsLexicographicRow n n w_of (tableau x) a.column a.row) s.0 a.chosen in
+      let column = same_column n u (valid_at us u last.entering b.path) last.entering a.column b.column a.row b.row column_in b.column_in nonbasic b.entering_is chosen b.chosen in
+      let row = same_row n u (valid_at us u last.entering b.path) last.entering a.column b.column a.row b.row column_in b.column_in nonbasic b.entering_is chosen b.chosen in
+      let here : IsFirstUnfit (steps_of_pivot u b.row b.column) stop.unfit = subst₂ (λ x y. IsFirstUnfit (steps_of_pivot u x y) stop.unfit) row column (subst (λ x. IsFirstUnfit (steps_of_pivot x a.row a.column) stop.unfit) s.0 a.unfit) in
       let number : stop.number ≡ last.number = a.number ∙ ap (λ k. pivot_number (suc (suc k))) q ∙ sym b.number in
       let entering : stop.entering ≡ last.entering = s.1 in
-      let unfit : stop.unfit ≡ last.unfit = unfit_once (steps_of_pivot u b.row b.col) stop.unfit last.unfit here b.unfit in
+      let unfit : stop.unfit ≡ last.unfit = unfit_once (steps_of_pivot u b.row b.column) stop.unfit last.unfit here b.unfit in
       λ i. record { number = number i; entering = entering i; unfit = unfit i }
 
   stops_same : (stop : UnfitPivot) (ss : List WholeTableau) (t : WholeTableau) (last : UnfitPivot) (us : List WholeTableau) (u : WholeTableau) → StopsAt m n r stop ss t → StopsAt m n r last us u → stop ≡ last

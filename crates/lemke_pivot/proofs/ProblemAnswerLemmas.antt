@@ -1,4 +1,5 @@
 -- A form has one problem, or one reason why it has none.
+use Rattle.sequence_data.specs.Sizes.{form_sizes, problem_rows}
 use Rattle.std.proofs.Common.{◌≡◌, ◌∙◌, ◌<◌, sym}
 use Rattle.answers.specs.Answers.{◌>>◌, IsSingle, only, refused_by}
 use Rattle.answers.proofs.AnswerLemmas.{bind-single, only-single, refuse_where-single, refused_by-single}
@@ -12,7 +13,7 @@ use Rattle.game_core.specs.declared.too_large.What.TheVariants as what
 use Rattle.sequence_forms.specs.Prices.{costs}
 use Rattle.sequence_data.specs.Data.{FormData, form, side_of}
 use Rattle.lemke_pivot.specs.declared.stop.LcpStop.TheVariants as stops
-use Rattle.lemke_pivot.specs.FormProblems.{IsSystemOf, ProblemsAreSingle, both_costs, costs_in, form_size, form_start_in, steps_at, told_cost, told_start, with_start}
+use Rattle.lemke_pivot.specs.FormProblems.{IsSystemOf, ProblemsAreSingle, both_costs, costs_in, form_start_in, steps_at, told_cost, told_start, with_start}
 use Rattle.lemke_pivot.specs.Parts.{start_tableau}
 
 -- ---- the start
@@ -31,7 +32,7 @@ module _ (f : FormData) where
 pub problems_single : ProblemsAreSingle
 problems_single f =
     let numbers = costs_in f.greatest_one f.greatest_two f.cells in
-    let size = refused_by stops.TooLarge (within what.Rows most_rows (form_size f)) in
-    bind-single size (λ _. numbers >> form_start_in f) (refused_by-single stops.TooLarge _ (refuse_where-single (most_rows < form_size f) (too_large what.Rows most_rows (form_size f))))
+    let size = refused_by stops.TooLarge (within what.Rows most_rows (problem_rows (form_sizes f))) in
+    bind-single size (λ _. numbers >> form_start_in f) (refused_by-single stops.TooLarge _ (refuse_where-single (most_rows < problem_rows (form_sizes f)) (too_large what.Rows most_rows (problem_rows (form_sizes f)))))
     (λ _ _. bind-single numbers (λ _. form_start_in f) (refused_by-single told_cost _ (all_fit-single (steps_at f.greatest_one f.greatest_two) (both_costs f.cells)))
     (λ _ _. form_start_in-single f))

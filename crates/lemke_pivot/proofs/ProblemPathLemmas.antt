@@ -105,13 +105,13 @@ module _ (n : ℕ) (M : ℕ → ℕ → ℚ) (b : ℕ → ℚ) (r : ℕ) (fr : I
   above : (t : Tableau) → HasPositiveKeys n M b t → basic_solution t (z0_of n) ≢ zero_ℚ → zero_ℚ <ℚ basic_solution t (z0_of n)
   above t R ne = elim (eq_or_lt_of_le zero_ℚ (basic_solution t (z0_of n)) (value_sign n M b t R (z0_of n))) [ inl q ↦ absurd (ne (sym q)) | inr l ↦ l ]
 
-  pub in_ray : (ss : List Tableau) (t : Tableau) (c col : ℕ) → PathTo n M b r ss t c → basic_solution t (z0_of n) ≢ zero_ℚ → col < t.width → t.nonbasic col ≡ c → ((i : ℕ) → i < n → t.cell i col ≤ℚ zero_ℚ) → IsRayAt n M b t col
-  in_ray ss t c col p ne hc e none = let w = on_path ss t c (goes_on ss t c p ne) in path_ray n M b r fr t c col (map is_basic ss) w.0 w.1 hc e none (above t w.1 ne)
+  pub in_ray : (ss : List Tableau) (t : Tableau) (c column : ℕ) → PathTo n M b r ss t c → basic_solution t (z0_of n) ≢ zero_ℚ → column < t.width → t.nonbasic column ≡ c → ((i : ℕ) → i < n → t.cell i column ≤ℚ zero_ℚ) → IsRayAt n M b t column
+  in_ray ss t c column p ne hc e none = let w = on_path ss t c (goes_on ss t c p ne) in path_ray n M b r fr t c column (map is_basic ss) w.0 w.1 hc e none (above t w.1 ne)
 
-  pub leaving_row : (ss : List Tableau) (t : Tableau) (c col : ℕ) → ExcludesRays n M b → PathTo n M b r ss t c → basic_solution t (z0_of n) ≢ zero_ℚ → col < t.width → t.nonbasic col ≡ c → (row : ℕ) × IsLexicographicRow n n w_of t col row
-  leaving_row ss t c col cop p ne hc e = let w = on_path ss t c (goes_on ss t c p ne) in
-      elim (lex_row_is (suc (suc (n + n))) n (start n M b) t col (is_start n M b) w.1.reached) [
-        | inl none ↦ absurd (path_goes_on n M b r fr t c col (map is_basic ss) cop w.0 w.1 hc e (above t w.1 ne) none)
+  pub leaving_row : (ss : List Tableau) (t : Tableau) (c column : ℕ) → ExcludesRays n M b → PathTo n M b r ss t c → basic_solution t (z0_of n) ≢ zero_ℚ → column < t.width → t.nonbasic column ≡ c → (row : ℕ) × IsLexicographicRow n n w_of t column row
+  leaving_row ss t c column cop p ne hc e = let w = on_path ss t c (goes_on ss t c p ne) in
+      elim (lex_row_is (suc (suc (n + n))) n (start n M b) t column (is_start n M b) w.1.reached) [
+        | inl none ↦ absurd (path_goes_on n M b r fr t c column (map is_basic ss) cop w.0 w.1 hc e (above t w.1 ne) none)
         | inr q ↦ q
       ]
 
@@ -147,14 +147,14 @@ pub paths_are_short : PathsAreShort
 paths_are_short n M b r ss t c fr p = short n M b r fr ss t c p
 
 pub paths_end_in_rays : PathsEndInRays
-paths_end_in_rays n M b r ss t c col fr p ne hc e none = in_ray n M b r fr ss t c col p ne hc e none
+paths_end_in_rays n M b r ss t c column fr p ne hc e none = in_ray n M b r fr ss t c column p ne hc e none
 
 pub paths_end_solved : PathsEndSolved
 paths_end_solved n M b r ss t c fr p z = solved n M b r fr ss t c p z
 
 pub always_a_leaving_row : AlwaysALeavingRow
-always_a_leaving_row rows columns one two r ss t c col f g costs fr p ne hc e = let s = costs_of rows columns one two in
-    leaving_row (size s) (matrix s) (right_sides s) r fr ss t c col (sides_exclude_rays rows columns one two f g costs) p ne hc e
+always_a_leaving_row rows columns one two r ss t c column f g costs fr p ne hc e = let s = costs_of rows columns one two in
+    leaving_row (size s) (matrix s) (right_sides s) r fr ss t c column (sides_exclude_rays rows columns one two f g costs) p ne hc e
 
 pub least_is_negative : LeastIsNegative
 unfolding right_sides
@@ -168,7 +168,7 @@ paths_are_unique n M b r (s ∷ ss) [] t t' c c' fr p q e = absurd (omega arith)
 paths_are_unique n M b r (s ∷ ss) (s' ∷ ss') t t' c c' fr p q e = step (paths_are_unique n M b r ss ss' s s' p.0 q.0 fr p.2 q.2 (omega arith)) (keys n M b r fr ss s p.0 p.2) (keys n M b r fr ss' s' q.0 q.2)
   where
     step : Alike s s' × (p.0 ≡ q.0) → HasPositiveKeys n M b s → HasPositiveKeys n M b s' → Alike t t' × (c ≡ c')
-    step w R R' = (alike_both (pivot s p.4.row p.4.col) t t' p.4.to (alike_trans (pivot s p.4.row p.4.col) (pivot s' p.4.row p.4.col) t' (alike_pivot s s' p.4.row p.4.col row_is p.4.col_in w.0) (subst (λ k. Alike (pivot s' k p.4.col) t') (sym row) (subst (λ j. Alike (pivot s' q.4.row j) t') (sym col) q.4.to))), p.5 ∙ ap (complement n) leaves ∙ sym q.5)
+    step w R R' = (alike_both (pivot s p.4.row p.4.column) t t' p.4.to (alike_trans (pivot s p.4.row p.4.column) (pivot s' p.4.row p.4.column) t' (alike_pivot s s' p.4.row p.4.column row_is p.4.column_in w.0) (subst (λ k. Alike (pivot s' k p.4.column) t') (sym row) (subst (λ j. Alike (pivot s' q.4.row j) t') (sym column) q.4.to))), p.5 ∙ ap (complement n) leaves ∙ sym q.5)
       where
         from : Alike s' s
         from = alike_sym s s' w.0
@@ -176,14 +176,14 @@ paths_are_unique n M b r (s ∷ ss) (s' ∷ ss') t t' c c' fr p q e = step (path
         row_is : p.4.row < s.rows
         row_is = row_in n M b s R.reached p.4.row p.4.chosen.within
 
-        q_in : q.4.col < s.width
-        q_in = into_width s' s from q.4.col q.4.col_in
+        q_in : q.4.column < s.width
+        q_in = into_width s' s from q.4.column q.4.column_in
 
-        col : p.4.col ≡ q.4.col
-        col = R.reached.proper.nonbasic_once p.4.col q.4.col p.4.col_in q_in (p.4.c_is ∙ w.1 ∙ sym q.4.c_is ∙ sym (w.0.nonbasic q.4.col q_in))
+        column : p.4.column ≡ q.4.column
+        column = R.reached.proper.nonbasic_once p.4.column q.4.column p.4.column_in q_in (p.4.c_is ∙ w.1 ∙ sym q.4.c_is ∙ sym (w.0.nonbasic q.4.column q_in))
 
         row : p.4.row ≡ q.4.row
-        row = lex_row_once n w_of s p.4.col p.4.row q.4.row p.4.chosen (subst (λ j. IsLexicographicRow n n w_of s j q.4.row) (sym col) (alike_lex_row n n w_of s' s q.4.col q.4.row (let k : s'.rows ≡ n = R'.reached.rows in omega arith) q.4.col_in from q.4.chosen))
+        row = lex_row_once n w_of s p.4.column p.4.row q.4.row p.4.chosen (subst (λ j. IsLexicographicRow n n w_of s j q.4.row) (sym column) (alike_lex_row n n w_of s' s q.4.column q.4.row (let k : s'.rows ≡ n = R'.reached.rows in omega arith) q.4.column_in from q.4.chosen))
 
         leaves : p.1 ≡ q.1
         leaves = sym p.4.l_is ∙ w.0.basic p.4.row row_is ∙ ap s'.basic row ∙ q.4.l_is

@@ -31,6 +31,6 @@ abbrev pub solved_in : Problem → Answer UnfitPivot Problem
 solved_in p (Ok s) = IsSolutionOf p s
 solved_in p (Err stop) = IsUnfitPivot p stop
 
--- A problem's path has one end.
+-- A problem's path has at most one end.
 abbrev pub EndsAreSingle : Type 0
 EndsAreSingle = (p : Problem) → IsProblem p → IsSingle (solved_in p)

@@ -1,4 +1,5 @@
 -- The problem of a sequence form in stages, and why there is none.
+use Rattle.sequence_data.specs.Sizes.{form_sizes, problem_rows}
 use Rattle.std.specs.Prelude.{ℕ, List, [], ◌∷◌, Ok}
 use Rattle.std.specs.List.{flat_map}
 use Rattle.answers.specs.Answers.{Answer, ◌>>=◌, ◌>>◌, only, IsSingle, refused_by}
@@ -15,16 +16,11 @@ use Rattle.game_core.specs.declared.too_large.What.TheVariants as what
 use Rattle.frac128.specs.FirstUnfit.{all_fit}
 use Rattle.sequence_forms.specs.Prices.{costs}
 use Rattle.sequence_data.specs.declared.types.Cell.{Cell}
-use Rattle.sequence_data.specs.Data.{FormData, IsFormData, form, of_player, side_of}
-use Rattle.lemke_pivot.specs.Parts.{Problem, IsProblem, IsProblemOfForm, problem_size}
+use Rattle.sequence_data.specs.Data.{FormData, IsFormData, form, of_player}
+use Rattle.lemke_pivot.specs.Parts.{Problem, IsProblem, IsProblemOfForm}
 use Rattle.lemke_pivot.specs.Systems.{IsSystemFor}
 use Rattle.lemke_pivot.specs.declared.stop.LcpStop.{LcpStop}
 use Rattle.lemke_pivot.specs.declared.stop.LcpStop.TheVariants as stops
-
--- ---- the size
--- the rows of a form's problem
-abbrev pub form_size : FormData → ℕ
-form_size f = problem_size (side_of f.first) (side_of f.second)
 
 -- ---- the costs
 -- the cost of a payoff: the greatest payoff times the weight, less the payoff; the product first
@@ -95,10 +91,10 @@ form_start_in f =
 -- The problem of a sequence form within the limit, whose steps all fit; or why there is none.
 abbrev pub problem_in : FormData → Answer LcpStop Problem
 problem_in f =
-    refused_by stops.TooLarge (within what.Rows most_rows (form_size f))
+    refused_by stops.TooLarge (within what.Rows most_rows (problem_rows (form_sizes f)))
     >> (costs_in f.greatest_one f.greatest_two f.cells >> form_start_in f)
 
--- A form has one problem, or one reason why it has none.
+-- A form has at most one answer: its problem, or the reason why it has none.
 abbrev pub ProblemsAreSingle : Type 0
 ProblemsAreSingle = (f : FormData) → IsSingle (problem_in f)
 

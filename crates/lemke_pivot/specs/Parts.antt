@@ -1,9 +1,11 @@
 -- What contracts see of a problem and of its solution.
-use Rattle.std.specs.Prelude.{ℕ, suc, ◌+◌, ◌<◌, ◌≤◌, ◌≡◌, slice_index_or}
+use Rattle.sequence_data.specs.Sizes.{problem_rows, sizes_of}
+use Rattle.std.specs.Prelude.{ℕ, ◌+◌, ◌<◌, ◌≤◌, ◌≡◌, slice_index_or}
 use Rattle.rational.specs.Rational.{ℚ}
 use Rattle.linear_systems.specs.Tableau.{Tableau}
 use Rattle.linear_systems.specs.Rows.{basic_solution, Alike}
 use Rattle.game_core.specs.Limits.{most_rows}
+use Rattle.game_theory.specs.Lines.{listed}
 use Rattle.sequence_forms.specs.Forms.{SequenceForm}
 use Rattle.sequence_forms.specs.Prices.{costs}
 use Rattle.sequence_forms.specs.Sides.{Side, sequences}
@@ -12,6 +14,7 @@ use Rattle.lemke_pivot.specs.ProblemPaths.{start, w_of, z_of}
 use Rattle.lemke_pivot.specs.Problems.{costs_of, matrix, right_sides, size}
 use Rattle.lex_tableau.specs.Rows.{WholeTableau, IsTableau, tableau}
 use Rattle.sequence_data.specs.Data.{SideData, IsSideData, side_of}
+use Rattle.sequence_data.specs.PlanPairs.{PlanPair}
 
 -- both players' sides, and a tableau: of a problem the start, and of a solution the end of the path
 pub record Problem : Type 0 where
@@ -19,16 +22,9 @@ pub record Problem : Type 0 where
   pub second : SideData
   pub tableau : WholeTableau
 
--- how many rows the problem of two sides has
-abbrev pub problem_size : Side → Side → ℕ
-problem_size rows columns =
-    sequences rows
-    + (sequences columns
-    + (suc rows.sets + (suc rows.sets + (suc columns.sets + suc columns.sets))))
-
 -- how many rows a problem has
 abbrev pub size_of : Problem → ℕ
-size_of p = problem_size (side_of p.first) (side_of p.second)
+size_of p = problem_rows (sizes_of (side_of p.first) (side_of p.second))
 
 -- the start of the problem of two sides with these costs
 abbrev pub start_tableau : Side → Side → (ℕ → ℕ → ℚ) → (ℕ → ℕ → ℚ) → Tableau
@@ -48,6 +44,13 @@ plan_one p q = z_values p q
 abbrev pub plan_two : Problem → ℕ → ℚ
 plan_two p q = z_values p (sequences (side_of p.first) + q)
 
+-- both players' plans
+abbrev pub plans_at : Problem → PlanPair
+plans_at p = record {
+  one = listed (sequences (side_of p.first)) (plan_one p);
+  two = listed (sequences (side_of p.second)) (plan_two p);
+}
+
 -- ---- problems
 -- a tableau is the start of the problem of these sides, for some costs whose sums are nowhere
 -- negative
@@ -56,9 +59,9 @@ pub record IsStartFor (first second : SideData) (n : WholeTableau) : Type 0 wher
   pub two : ℕ → ℕ → ℚ
   pub costs : CostSumsAreNotNegative (costs_of (side_of first) (side_of second) one two)
   pub begins : Alike (start_tableau (side_of first) (side_of second) one two) (tableau n)
-  pub starts : (i : ℕ) → i < problem_size (side_of first) (side_of second)
+  pub starts : (i : ℕ) → i < problem_rows (sizes_of (side_of first) (side_of second))
       → slice_index_or n.starts i 0 ≡ w_of i
-  pub rated : n.rated ≡ problem_size (side_of first) (side_of second)
+  pub rated : n.rated ≡ problem_rows (sizes_of (side_of first) (side_of second))
   pub valid : IsTableau n
 
 -- a problem: both players' sides, and the start; its rows are within the limit

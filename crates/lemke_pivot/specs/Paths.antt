@@ -15,7 +15,7 @@ use Rattle.lemke_pivot.specs.ProblemPaths.{w_of, z_of, z0_of, complement, start,
 -- makes
 pub record ReplacesExactly (n : ℕ) (s : WholeTableau) (c l : ℕ) (t : WholeTableau) : Type 0 where
   pub replaces : Replaces n (tableau s) c l (tableau t)
-  pub fitting : IsFittingPivot s replaces.row replaces.col t
+  pub fitting : IsFittingPivot s replaces.row replaces.column t
 
 -- The path from m has come to t, and c is next. The list has the tableaux after the first pivot and
 -- before t, the last one first. z0 enters at row r; as long as the value of z0 is not 0, the
@@ -42,12 +42,12 @@ pub record StopsAt (m : WholeTableau) (n r : ℕ) (stop : UnfitPivot)
     (earlier : List WholeTableau) (t : WholeTableau) : Type 0 where
   pub path : ExactPathTo m n r earlier t stop.entering
   pub goes_on : basic_solution (tableau t) (z0_of n) ≢ zero_ℚ
-  pub col : ℕ
+  pub column : ℕ
   pub row : ℕ
-  pub col_in : col < (tableau t).width
-  pub entering_is : (tableau t).nonbasic col ≡ stop.entering
-  pub chosen : IsLexicographicRow n n w_of (tableau t) col row
-  pub unfit : IsFirstUnfit (steps_of_pivot t row col) stop.unfit
+  pub column_in : column < (tableau t).width
+  pub entering_is : (tableau t).nonbasic column ≡ stop.entering
+  pub chosen : IsLexicographicRow n n w_of (tableau t) column row
+  pub unfit : IsFirstUnfit (steps_of_pivot t row column) stop.unfit
   pub number : stop.number ≡ pivot_number (suc (suc (length earlier)))
 
 -- A step that does not fit ends the path: in the first pivot, by which z0 enters, or in a later

@@ -24,7 +24,7 @@ PathsAreShort =
     (n : ℕ) (M : ℕ → ℕ → ℚ) (b : ℕ → ℚ) (r : ℕ) (ss : List Tableau) (t : Tableau) (c : ℕ)
     → IsFirstRow n b r → PathTo n M b r ss t c → suc (length ss) ≤ 2 ^ suc (suc (n + n))
 
--- the path has one course
+-- the path has at most one course
 abbrev pub PathsAreUnique : Type 0
 PathsAreUnique =
     (n : ℕ) (M : ℕ → ℕ → ℚ) (b : ℕ → ℚ) (r : ℕ) (ss ss' : List Tableau) (t t' : Tableau) (c c' : ℕ)
@@ -41,9 +41,9 @@ PathsEndSolved =
 -- where it is not 0 and no row leaves, there is a ray
 abbrev pub PathsEndInRays : Type 0
 PathsEndInRays =
-    (n : ℕ) (M : ℕ → ℕ → ℚ) (b : ℕ → ℚ) (r : ℕ) (ss : List Tableau) (t : Tableau) (c col : ℕ)
-    → IsFirstRow n b r → PathTo n M b r ss t c → basic_solution t (z0_of n) ≢ zero_ℚ → col < t.width
-    → t.nonbasic col ≡ c → ((i : ℕ) → i < n → t.cell i col ≤ℚ zero_ℚ) → IsRayAt n M b t col
+    (n : ℕ) (M : ℕ → ℕ → ℚ) (b : ℕ → ℚ) (r : ℕ) (ss : List Tableau) (t : Tableau) (c column : ℕ)
+    → IsFirstRow n b r → PathTo n M b r ss t c → basic_solution t (z0_of n) ≢ zero_ℚ → column < t.width
+    → t.nonbasic column ≡ c → ((i : ℕ) → i < n → t.cell i column ≤ℚ zero_ℚ) → IsRayAt n M b t column
 
 -- z0 has a row to enter at, where a right side is negative
 abbrev pub FirstRowsExist : Type 0
@@ -67,11 +67,11 @@ NoRay =
 abbrev pub AlwaysALeavingRow : Type 0
 AlwaysALeavingRow =
     (rows columns : Side) (one two : ℕ → ℕ → ℚ) (r : ℕ) (ss : List Tableau) (t : Tableau)
-    (c col : ℕ) → let s = costs_of rows columns one two in
+    (c column : ℕ) → let s = costs_of rows columns one two in
     HasFlow rows → HasFlow columns → CostSumsAreNotNegative s
     → IsFirstRow (size s) (right_sides s) r → PathTo (size s) (matrix s) (right_sides s) r ss t c
-    → basic_solution t (z0_of (size s)) ≢ zero_ℚ → col < t.width → t.nonbasic col ≡ c
-    → (row : ℕ) × IsLexicographicRow (size s) (size s) w_of t col row
+    → basic_solution t (z0_of (size s)) ≢ zero_ℚ → column < t.width → t.nonbasic column ≡ c
+    → (row : ℕ) × IsLexicographicRow (size s) (size s) w_of t column row
 
 -- a row of least right side has a negative one
 abbrev pub LeastIsNegative : Type 0

@@ -53,13 +53,13 @@ pub record IsFirstRow (n : ℕ) (b : ℕ → ℚ) (r : ℕ) : Type 0 where
 
 -- t' is the pivot of t by which c enters on its lexicographic row and l leaves
 pub record Replaces (n : ℕ) (t : Tableau) (c l : ℕ) (t' : Tableau) : Type 0 where
-  pub col : ℕ
+  pub column : ℕ
   pub row : ℕ
-  pub col_in : col < t.width
-  pub c_is : t.nonbasic col ≡ c
+  pub column_in : column < t.width
+  pub c_is : t.nonbasic column ≡ c
   pub l_is : t.basic row ≡ l
-  pub chosen : IsLexicographicRow n n w_of t col row
-  pub to : Alike (pivot t row col) t'
+  pub chosen : IsLexicographicRow n n w_of t column row
+  pub to : Alike (pivot t row column) t'
 
 -- The path has come to t, and c is next. The list has the tableaux before t, the last one first.
 -- The path begins with z0, which enters at row r; as long as the value of z0 is not 0, the variable
@@ -76,7 +76,7 @@ SolvesAt n M b t =
 
 -- the point of a tableau and the direction of a column are a ray
 abbrev pub IsRayAt : ℕ → (ℕ → ℕ → ℚ) → (ℕ → ℚ) → Tableau → ℕ → Type 0
-IsRayAt n M b t col =
+IsRayAt n M b t column =
     IsRay n M b (λ i. basic_solution t (w_of i)) (λ i. basic_solution t (z_of n i))
-    (λ i. direction t col (w_of i)) (λ i. direction t col (z_of n i))
-    (basic_solution t (z0_of n)) (direction t col (z0_of n))
+    (λ i. direction t column (w_of i)) (λ i. direction t column (z_of n i))
+    (basic_solution t (z0_of n)) (direction t column (z0_of n))

@@ -4,6 +4,7 @@ use Rattle.std.specs.Prelude.{ℕ, suc, ◌<◌, ◌≡◌, ◌+◌}
 use Rattle.rational.specs.Rational.{ℚ, ◌+ℚ◌, ◌*ℚ◌, neg_ℚ, zero_ℚ, ◌≤ℚ◌, ◌<ℚ◌}
 use Rattle.sequence_forms.specs.Sides.{Side, sequences}
 use Rattle.sequence_forms.specs.Matrices.{set_row, right_side, AreNotNegative}
+use Rattle.sequence_data.specs.Sizes.{block_rows}
 use Rattle.lemke_pivot.specs.Vectors.{dot, image, bilinear, zeros, joined}
 
 -- a solution of w = b + M z with n rows
@@ -75,7 +76,7 @@ costs_of rows columns one two =
 -- The rows and the variables of the problem stand in six blocks: the plans x and y, prices P and P'
 -- of the first side, and Q and Q' of the second.
 abbrev pub size : Costs → ℕ
-size s = s.X + (s.Y + (s.h + (s.h + (s.k + s.k))))
+size s = block_rows s.X s.Y s.h s.k
 
 -- six functions, each on the places of its block
 abbrev pub in_blocks : {A : Type 0} → Costs → (ℕ → A) → (ℕ → A) → (ℕ → A) → (ℕ → A) → (ℕ → A)

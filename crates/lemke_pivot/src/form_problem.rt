@@ -1,12 +1,14 @@
 // The problem of a sequence form.
+ghost use Rattle.sequence_data.specs.Sizes.{form_sizes, problem_rows};
 ghost use Rattle.std.specs.Prelude.{◌≡◌, ◌≤◌, map, IfOk};
 ghost use Rattle.answers.specs.Answers.{Gives};
 ghost use Rattle.game_core.specs.Limits.{most_rows};
 ghost use Rattle.lemke_pivot.specs.declared.stop.LcpStop.TheVariants as stops;
-ghost use Rattle.lemke_pivot.specs.FormProblems.{IsSystemOf, cost_one, cost_two, form_size, problem_in, form_start_in};
+ghost use Rattle.lemke_pivot.specs.FormProblems.{IsSystemOf, cost_one, cost_two, problem_in, form_start_in};
 
 use crate::costs::costs;
 use crate::lcp::{Lcp, row_count};
+use crate::matrix::SideCosts;
 use crate::stop::LcpStop;
 use crate::system::system;
 use frac128::{Frac, Memory};
@@ -22,21 +24,27 @@ fn system_of_form(
     one: &[Frac],
     two: &[Frac],
 ) -> Result<System, Memory>
-    requires few { form_size form.now ≤ most_rows }
+    requires few { problem_rows (form_sizes form.now) ≤ most_rows }
     requires one { one.now ≡ map (cost_one form.now.greatest_one) form.now.cells }
     requires two { two.now ≡ map (cost_two form.now.greatest_two) form.now.cells }
     ensures { IfOk result (IsSystemOf form.now) }
 {
     let rows = form.first().sequences() as usize;
     let columns = form.second().sequences() as usize;
-    let first = dense(alloc, rows, columns, form.cells(), one)?;
-    let second = dense(alloc, rows, columns, form.cells(), two)?;
-    system(alloc, form.first(), form.second(), &first, &second)
+    let one = dense(alloc, rows, columns, form.cells(), one)?;
+    let two = dense(alloc, rows, columns, form.cells(), two)?;
+    let costs = SideCosts {
+        first: form.first(),
+        second: form.second(),
+        one: &one,
+        two: &two,
+    };
+    system(alloc, &costs)
 }
 
 // The problem of a form with its system, and the room of its path.
 fn started(alloc: Global, form: &SeqForm, system: &System) -> Result<Lcp, LcpStop>
-    requires few { form_size form.now ≤ most_rows }
+    requires few { problem_rows (form_sizes form.now) ≤ most_rows }
     requires system { IsSystemOf form.now system.now }
     ensures { Gives stops.Memory (form_start_in form.now) result }
 {

@@ -9,7 +9,7 @@ pub fn problems_are_of_forms()
     ensures { ProblemsAreOfForms }
 {}
 
-/// A form has one problem, or one reason why it has none.
+/// A form has at most one answer: its problem, or the reason why it has none.
 pub fn problems_are_single()
     ensures { ProblemsAreSingle }
 {}
@@ -29,7 +29,7 @@ pub fn solutions_solve_tables()
     ensures { SolutionsSolveTables }
 {}
 
-/// A problem's path has one end: the solution, or the first step that does not fit.
+/// A problem's path has at most one end: the solution, or the first step that does not fit.
 pub fn ends_are_single()
     ensures { EndsAreSingle }
 {}

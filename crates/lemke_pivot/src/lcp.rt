@@ -1,6 +1,8 @@
 // The problem and its path.
+ghost use Rattle.sequence_data.specs.Sizes.{problem_rows, sizes_of};
 ghost use Rattle.std.specs.Prelude.{ℕ, suc, ◌≡◌, ◌+◌, ◌^◌, ◌<◌, ◌≤◌, length, IfErr, IfOk};
 ghost use Rattle.answers.specs.Answers.{Gives, map_ok};
+ghost use Rattle.game_theory.specs.Lines.{listed};
 ghost use Rattle.sequence_data.specs.Data.{IsSideData, side_of};
 ghost use Rattle.sequence_forms.specs.Sides.{sequences};
 ghost use Rattle.game_core.specs.Limits.{most_rows};
@@ -13,14 +15,14 @@ ghost use Rattle.lemke_pivot.specs.Ends.{solved_in};
 ghost use Rattle.lemke_pivot.specs.ProblemLaws.{CostSumsAreNotNegative};
 ghost use Rattle.lemke_pivot.specs.Problems.{costs_of};
 ghost use Rattle.lemke_pivot.specs.Systems.{IsSystemFor};
-ghost use Rattle.lemke_pivot.specs.Parts.{plan_one, plan_two, problem_size, size_of};
+ghost use Rattle.lemke_pivot.specs.Parts.{plan_one, plan_two, plans_at, size_of};
 ghost use Rattle.lemke_pivot.specs.ProblemPaths.{IsLeastRow};
 ghost use Rattle.lemke_pivot.specs.Paths.{LeadsTo};
 
 use crate::path::walk;
-use frac128::Frac;
+use frac128::{Frac, Memory};
 use lex_tableau::{PivotCount, StartStop, System, Tableau, UnfitPivot, Work};
-use sequence_data::Side;
+use sequence_data::{Plans, Side, rows, side_counts};
 use std::alloc::Global;
 use std::marker::Model;
 use std::sync::ledger::Ledger;
@@ -38,7 +40,8 @@ pub struct Lcp {
 impl Model for Lcp {
     ghost use Rattle.std.specs.Prelude.{◌≡◌};
     ghost use Rattle.sequence_data.specs.Data.{side_of};
-    ghost use Rattle.lemke_pivot.specs.Parts.{IsProblem, Problem, problem_size};
+    ghost use Rattle.sequence_data.specs.Sizes.{problem_rows, sizes_of};
+    ghost use Rattle.lemke_pivot.specs.Parts.{IsProblem, Problem};
 
     ghost Value = { Problem };
 
@@ -46,7 +49,7 @@ impl Model for Lcp {
 
     ghost invariant = { λ l.
         IsProblem (record { first = l.first; second = l.second; tableau = l.work })
-        × (l.size ≡ problem_size (side_of l.first) (side_of l.second)) };
+        × (l.size ≡ problem_rows (sizes_of (side_of l.first) (side_of l.second))) };
 }
 
 /// A solution: both players' sets, and the end of the path, where the plans stand.
@@ -62,7 +65,8 @@ impl Model for Solution {
     ghost use Rattle.std.specs.Prelude.{◌≡◌, ◌≤◌};
     ghost use Rattle.game_core.specs.Limits.{most_rows};
     ghost use Rattle.sequence_data.specs.Data.{IsSideData, side_of};
-    ghost use Rattle.lemke_pivot.specs.Parts.{Problem, problem_size};
+    ghost use Rattle.sequence_data.specs.Sizes.{problem_rows, sizes_of};
+    ghost use Rattle.lemke_pivot.specs.Parts.{Problem};
 
     ghost Value = { Problem };
 
@@ -70,7 +74,7 @@ impl Model for Solution {
 
     ghost invariant = { λ s.
         IsSideData s.first × IsSideData s.second × (s.size ≤ most_rows)
-        × (s.size ≡ problem_size (side_of s.first) (side_of s.second)) };
+        × (s.size ≡ problem_rows (sizes_of (side_of s.first) (side_of s.second))) };
 }
 
 // The last of the rows with the least right side.
@@ -97,10 +101,9 @@ fn least_row(table: &Tableau, size: usize) -> usize
 pub(crate) fn row_count(first: &Side, second: &Side) -> u64
     requires first_side { IsSideData first.now }
     requires second_side { IsSideData second.now }
-    ensures { result ≡ problem_size (side_of first.now) (side_of second.now) }
+    ensures { result ≡ problem_rows (sizes_of (side_of first.now) (side_of second.now)) }
 {
-    let sets = first.sets().len() as u64 + second.sets().len() as u64;
-    first.sequences() as u64 + second.sequences() as u64 + 2 * (sets + 2)
+    rows(&side_counts(first, second))
 }
 
 impl Lcp {
@@ -117,7 +120,7 @@ impl Lcp {
     ) -> Result<Lcp, StartStop>
         requires first_side { IsSideData first }
         requires second_side { IsSideData second }
-        requires few { problem_size (side_of first) (side_of second) ≤ most_rows }
+        requires few { problem_rows (sizes_of (side_of first) (side_of second)) ≤ most_rows }
         requires problem { (one two : ℕ → ℕ → ℚ)
             × CostSumsAreNotNegative (costs_of (side_of first) (side_of second) one two)
             × IsSystemFor first second one two system.now }
@@ -168,22 +171,6 @@ impl Lcp {
 }
 
 impl Solution {
-    /// The first player's side.
-    pub fn first(&self) -> &Side
-        ensures side { result.now ≡ self.now.first }
-        ensures valid { IsSideData self.now.first }
-    {
-        &self.first
-    }
-
-    /// The second player's side.
-    pub fn second(&self) -> &Side
-        ensures side { result.now ≡ self.now.second }
-        ensures valid { IsSideData self.now.second }
-    {
-        &self.second
-    }
-
     /// The weight of a sequence in the first player's plan. Sequences count from 0, the empty one.
     pub fn one(&self, sequence: u32) -> Frac
         requires { sequence < sequences (side_of self.now.first) }
@@ -201,5 +188,42 @@ impl Solution {
         let place = self.first.sequences() as usize + sequence as usize;
         let variable = self.size + 1 + place;
         self.work.now().value(variable as u32)
+    }
+
+    // The first player's plan.
+    fn first_plan(&self, alloc: Global) -> Result<Vec<Frac>, Memory>
+        ensures { IfOk result (λ plan.
+            plan.items ≡ listed (sequences (side_of self.now.first)) (plan_one self.now)) }
+    {
+        let mut plan = Vec::new(alloc);
+        for sequence in 0..self.first.sequences() {
+            plan.push(self.one(sequence))?;
+        }
+        Ok(plan)
+    }
+
+    // The second player's plan.
+    fn second_plan(&self, alloc: Global) -> Result<Vec<Frac>, Memory>
+        ensures { IfOk result (λ plan.
+            plan.items ≡ listed (sequences (side_of self.now.second)) (plan_two self.now)) }
+    {
+        let mut plan = Vec::new(alloc);
+        for sequence in 0..self.second.sequences() {
+            plan.push(self.two(sequence))?;
+        }
+        Ok(plan)
+    }
+
+    /// Both players' plans.
+    ///
+    /// # Errors
+    ///
+    /// Memory ran out.
+    pub fn plans(&self, alloc: Global) -> Result<Plans, Memory>
+        ensures { IfOk result (λ plans. plans ≡ plans_at self.now) }
+    {
+        let one = self.first_plan(alloc)?;
+        let two = self.second_plan(alloc)?;
+        Ok(Plans::new(one, two))
     }
 }

@@ -1,11 +1,12 @@
 //! An equilibrium of a game with two players by complementary pivots.
 //!
-//! Callers may rely on: `problem` and `Lcp::solve` give the one problem and the one end of its
-//! path: a solution or the first step that does not fit, and no ray; `solutions_solve_trees`.
+//! Callers may rely on: `problem` and `Lcp::solve` give the problem and the end of its path, of
+//! which there is at most one each: a solution or the first step that does not fit, and no ray;
+//! `solutions_solve_trees`.
 //! Definitions: `specs::Problems` has problems w = b + M z and that of two sides, `ProblemPaths`
 //! the path of complementary pivots, `FormProblems` what a form answers, `Ends` the end of a path;
 //! `Systems`, `Vectors` and `Values` have the rows of a problem and what a tableau gives.
-//! Lemmas for callers: `proofs::ProblemAnswerLemmas` and `PathEndLemmas`, that each is one;
+//! Lemmas for callers: `proofs::ProblemAnswerLemmas` and `PathEndLemmas`, that there is at most one;
 //! `PathStartLemmas`.
 //! A change here touches: what `lcp` answers and refuses, and `lcp_texts_are_equilibria`.
 #![tactic(auto)]
@@ -39,7 +40,7 @@ pub fn paths_are_short()
     ensures { PathsAreShort }
 {}
 
-/// The path has one course.
+/// The path has at most one course.
 pub fn paths_are_unique()
     ensures { PathsAreUnique }
 {}

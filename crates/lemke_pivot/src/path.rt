@@ -58,15 +58,15 @@ pub(crate) fn walk<L: Ledger>(
         if work.now().value(z0).is_zero() {
             return Ok(());
         }
-        let Some(col) = work.now().column_of(entering) else {
+        let Some(column) = work.now().column_of(entering) else {
             unreachable!()
         };
-        let Some(row) = work.now().ratio_row(col) else {
+        let Some(row) = work.now().ratio_row(column) else {
             unreachable!()
         };
         let leaving = work.now().basic(row);
         step = step.saturating_add(1);
-        if let Err(unfit) = work.pivot(row, col, pivots) {
+        if let Err(unfit) = work.pivot(row, column, pivots) {
             return Err(UnfitPivot {
                 number: step,
                 entering,

@@ -1,94 +1,55 @@
 // The system of a form's problem.
-ghost use Rattle.std.specs.Prelude.{◌≡◌, ◌+◌, ◌*◌, ◌<◌, ◌≤◌, length, IfOk};
-ghost use Rattle.sequence_data.specs.Data.{IsSideData, side_of};
-ghost use Rattle.sequence_forms.specs.Sides.{sequences};
+ghost use Rattle.std.specs.Prelude.{◌≡◌, ◌+◌, ◌*◌, ◌<◌, ◌≤◌, IfOk};
 ghost use Rattle.game_core.specs.Limits.{most_rows};
 ghost use Rattle.lex_tableau.specs.Entries.{AreEntries, entry_of};
-ghost use Rattle.lemke_pivot.specs.Parts.{problem_size};
-ghost use Rattle.lemke_pivot.specs.Systems.{IsSystemFor, listed_start};
-ghost use Rattle.sequence_data.specs.Matrices.{matrix_size, number_at};
+ghost use Rattle.lemke_pivot.specs.Systems.{AreCosts, IsSystemAt, size_at, start_at};
 
 use crate::lcp::row_count;
-use crate::matrix::{matrix_entry, right_entry};
+use crate::matrix::SideCosts;
 use frac128::{Frac, Memory};
 use lex_tableau::{System, numbered};
-use sequence_data::Side;
 use std::alloc::Global;
 
-// The entry of the start at a row and a column, the right side last.
-fn entry(
-    first: &Side,
-    second: &Side,
-    one: &[Frac],
-    two: &[Frac],
-    size: usize,
-    row: usize,
-    col: usize,
-) -> Frac
-    requires first_side { IsSideData first.now }
-    requires second_side { IsSideData second.now }
-    requires costs_one { length one.now ≡ matrix_size first.now second.now }
-    requires costs_two { length two.now ≡ matrix_size first.now second.now }
-    requires size { size ≡ problem_size (side_of first.now) (side_of second.now) }
+// The entry of the start at a row and a column, the right side last, where there are so many rows.
+fn entry(costs: &SideCosts, size: usize, row: usize, column: usize) -> Frac
+    requires costs { AreCosts costs.now }
+    requires size { size ≡ size_at costs.now }
     requires row { row < size }
-    ensures { result ≡ entry_of (listed_start first.now second.now one.now two.now) row col }
+    ensures { result ≡ entry_of (start_at costs.now) row column }
 {
-    if col < size {
-        matrix_entry(first, second, one, two, row, col).neg()
-    } else if col == size {
+    if column < size {
+        costs.matrix_entry(row, column).neg()
+    } else if column == size {
         Frac::one().neg()
     } else {
-        right_entry(first, second, one, two, row)
+        costs.right_entry(row)
     }
 }
 
 // All entries, row by row.
-fn entries(
-    alloc: Global,
-    first: &Side,
-    second: &Side,
-    one: &[Frac],
-    two: &[Frac],
-    size: usize,
-) -> Result<Vec<Frac>, Memory>
-    requires first_side { IsSideData first.now }
-    requires second_side { IsSideData second.now }
-    requires costs_one { length one.now ≡ matrix_size first.now second.now }
-    requires costs_two { length two.now ≡ matrix_size first.now second.now }
-    requires size { size ≡ problem_size (side_of first.now) (side_of second.now) }
+fn entries(alloc: Global, costs: &SideCosts, size: usize) -> Result<Vec<Frac>, Memory>
+    requires costs { AreCosts costs.now }
+    requires size { size ≡ size_at costs.now }
     requires few { size ≤ most_rows }
-    ensures { IfOk result (λ cells. AreEntries (listed_start first.now second.now one.now two.now)
-        (size + 2) (size * (size + 2)) cells.items) }
+    ensures { IfOk result (λ cells.
+        AreEntries (start_at costs.now) (size + 2) (size * (size + 2)) cells.items) }
 {
     let mut cells = Vec::with_capacity(alloc, size * (size + 2))?;
     for k in 0..size * (size + 2) {
-        let row = k / (size + 2);
-        let col = k % (size + 2);
-        cells.push(entry(first, second, one, two, size, row, col))?;
+        cells.push(entry(costs, size, k / (size + 2), k % (size + 2)))?;
     }
     Ok(cells)
 }
 
 /// The system of the problem with these costs, row by row.
-pub(crate) fn system(
-    alloc: Global,
-    first: &Side,
-    second: &Side,
-    one: &[Frac],
-    two: &[Frac],
-) -> Result<System, Memory>
-    requires first_side { IsSideData first.now }
-    requires second_side { IsSideData second.now }
-    requires costs_one { length one.now ≡ matrix_size first.now second.now }
-    requires costs_two { length two.now ≡ matrix_size first.now second.now }
-    requires few { problem_size (side_of first.now) (side_of second.now) ≤ most_rows }
-    ensures { IfOk result (IsSystemFor first.now second.now
-        (number_at one.now (sequences (side_of second.now)))
-        (number_at two.now (sequences (side_of second.now)))) }
+pub(crate) fn system(alloc: Global, costs: &SideCosts) -> Result<System, Memory>
+    requires costs { AreCosts costs.now }
+    requires few { size_at costs.now ≤ most_rows }
+    ensures { IfOk result (IsSystemAt costs.now) }
 {
-    let size = row_count(first, second) as usize;
+    let size = row_count(costs.first, costs.second) as usize;
     let basics = numbered(alloc, 1, size as u32)?;
     let nonbasics = numbered(alloc, size as u32 + 1, size as u32 + 1)?;
-    let cells = entries(alloc, first, second, one, two, size)?;
+    let cells = entries(alloc, costs, size)?;
     Ok(System::new(basics, nonbasics, cells, size))
 }

@@ -1,5 +1,5 @@
 -- Lemmas for the lexicographic row in code.
-use Rattle.std.proofs.Common.{[], ◌∷◌, ◌*ℤ◌, ◌<ℤ◌, ◌≤ℤ◌, ℕ, ℤ, suc, zero, pos, negsuc, nat_abs, ◌<◌, ◌≡◌, ◌≢◌, ◌+◌, ◌-◌, ◌*◌, refl, sym, ap, ap₂, ◌∙◌, subst, subst₂, List, length, get_or, arith, inl, inr, Option, Some, None, int_cmp}
+use Rattle.std.proofs.Common.{[], ◌∷◌, ◌*ℤ◌, ◌<ℤ◌, ◌≤ℤ◌, ℕ, ℤ, suc, zero, pos, negsuc, nat_abs, ◌<◌, ◌≡◌, ◌≢◌, ◌+◌, ◌-◌, refl, sym, ap, ap₂, ◌∙◌, subst, subst₂, List, length, get_or, arith, inl, inr, Option, Some, None, int_cmp}
 use Rattle.std.specs.declared.cmp.Ordering.{Ordering}
 use Rattle.std.specs.declared.cmp.Ordering.TheVariants.{Less, Equal, Greater}
 use Rattle.std.specs.Ordering.{MatchOrdering}
@@ -19,11 +19,10 @@ use Rattle.linear_systems.specs.Lex.{IsLexLess}
 use Rattle.linear_systems.specs.Rows.{coefficient, key, HasDistinctVariables}
 use Rattle.linear_systems.proofs.RowLemmas.{coefficient_own, coefficient_cell, coefficient_absent}
 use Rattle.linear_systems.proofs.LexRowLemmas.{lex_first, lex_pass, lex_take, below_cases, quotients_apart}
-use Rattle.whole_rows.specs.Rows.{from_place}
-use Rattle.lex_tableau.specs.Rows.{tableau_of, IsReachedFrom}
+use Rattle.lex_tableau.specs.Rows.{WholeTableau, row_of, tableau, IsTableau, IsReachedFrom}
 use Rattle.lex_tableau.specs.Columns.{IsColumnOf}
-use Rattle.lex_tableau.specs.Ratio.{variable_at, quotient_of, Compares, LexCompares, HasEachOnce, IsBest}
-use Rattle.lex_tableau.proofs.ColumnLemmas.{each_once}
+use Rattle.lex_tableau.specs.Keys.{IsKeyNumber, IsPositiveIn}
+use Rattle.lex_tableau.specs.Ratio.{variable_at, quotient_of, Compares, LexCompares, IsBest}
 use Rattle.whole_rows.proofs.RowValueLemmas.{fraction_over, over_entry, whole_ne, pos_ne, frac_over}
 
 -- ---- the numbers of a key
@@ -34,28 +33,31 @@ key_past b t i (suc p) h = ap (λ n. coefficient t i (b n)) (less p)
     less : (p : ℕ) → suc p - 1 ≡ p
     less p = omega arith
 
-module _ (bs ns : List ℕ) (xs : List ℤ) (ss : List ℕ) (i p : ℕ) (d : HasEachOnce bs ns) (hi : i < length bs) (pr : pos 0 <ℤ from_place xs (i * (length ns + 2)) 0) (hp : p ≢ 0) where
+module _ (n : WholeTableau) (i p : ℕ) (t : IsTableau n) (hi : i < length n.basics) (hp : p ≢ 0) where
   abbrev lead : ℤ
-  lead = from_place xs (i * (length ns + 2)) 0
+  lead = row_of n i 0
 
-  distinct : HasDistinctVariables (tableau_of bs ns xs)
-  distinct = each_once bs ns [] xs d
+  positive : pos 0 <ℤ lead
+  positive = (t.rows i hi).positive
 
-  pub key_own : get_or bs i 0 ≡ get_or ss (p - 1) 0 → frac lead (nat_abs lead) ≡ key (variable_at ss) (tableau_of bs ns xs) i p
+  distinct : HasDistinctVariables (tableau n)
+  distinct = t.reached.reached.proper
+
+  pub key_own : get_or n.basics i 0 ≡ get_or n.starts (p - 1) 0 → IsKeyNumber n i p lead
   key_own e =
-      fraction_over (from_place xs (i * (length ns + 2))) 0 pr ∙ *ℚ-inv (whole lead) (whole_ne lead (pos_ne lead pr))
-      ∙ sym (coefficient_own (tableau_of bs ns xs) i distinct hi) ∙ ap (coefficient (tableau_of bs ns xs) i) e ∙ key_past (variable_at ss) (tableau_of bs ns xs) i p hp
+      fraction_over (row_of n i) 0 positive ∙ *ℚ-inv (whole lead) (whole_ne lead (pos_ne lead positive))
+      ∙ sym (coefficient_own (tableau n) i distinct hi) ∙ ap (coefficient (tableau n) i) e ∙ key_past (variable_at n.starts) (tableau n) i p hp
 
-  pub key_column : (k : ℕ) → 0 < k → IsColumnOf ns (get_or ss (p - 1) 0) k → frac (from_place xs (i * (length ns + 2)) k) (nat_abs lead) ≡ key (variable_at ss) (tableau_of bs ns xs) i p
+  pub key_column : (k : ℕ) → 0 < k → IsColumnOf n.nonbasics (get_or n.starts (p - 1) 0) k → IsKeyNumber n i p (row_of n i k)
   key_column zero l h = absurd (omega arith)
   key_column (suc j) l h =
-      ap (λ k. frac (from_place xs (i * (length ns + 2)) k) (nat_abs lead)) (suc-eq-add-one j) ∙ sym (coefficient_cell (tableau_of bs ns xs) i j distinct hi h.0)
-      ∙ ap (coefficient (tableau_of bs ns xs) i) h.1 ∙ key_past (variable_at ss) (tableau_of bs ns xs) i p hp
+      ap (λ k. frac (row_of n i k) (nat_abs lead)) (suc-eq-add-one j) ∙ sym (coefficient_cell (tableau n) i j distinct hi h.0)
+      ∙ ap (coefficient (tableau n) i) h.1 ∙ key_past (variable_at n.starts) (tableau n) i p hp
 
-  pub key_absent : get_or bs i 0 ≢ get_or ss (p - 1) 0 → IsColumnOf ns (get_or ss (p - 1) 0) 0 → frac (pos 0) (nat_abs lead) ≡ key (variable_at ss) (tableau_of bs ns xs) i p
-  key_absent n g =
-      frac_over (pos 0) (nat_abs lead) (pos_abs lead pr) ∙ ring rational_ring (inv_ℚ (whole (pos (nat_abs lead))) ∷ []) (num 0 :* A) (num 0) refl
-      ∙ sym (coefficient_absent (tableau_of bs ns xs) i (get_or ss (p - 1) 0) n g) ∙ key_past (variable_at ss) (tableau_of bs ns xs) i p hp
+  pub key_absent : get_or n.basics i 0 ≢ get_or n.starts (p - 1) 0 → IsColumnOf n.nonbasics (get_or n.starts (p - 1) 0) 0 → IsKeyNumber n i p (pos 0)
+  key_absent o g =
+      frac_over (pos 0) (nat_abs lead) (pos_abs lead positive) ∙ ring rational_ring (inv_ℚ (whole (pos (nat_abs lead))) ∷ []) (num 0 :* A) (num 0) refl
+      ∙ sym (coefficient_absent (tableau n) i (get_or n.starts (p - 1) 0) o g) ∙ key_past (variable_at n.starts) (tableau n) i p hp
 
 -- ---- quotients
 -- the quotient of two fractions over one positive number
@@ -78,17 +80,16 @@ compares_frac n m d e o hd he same = subst (Compares (frac n d) (frac m e)) (sym
     go Equal h = (frac-eq n m d e hd he).1 h
     go Greater h = (frac-lt m n e d he hd).1 h
 
-pub compared : (bs ns : List ℕ) (xs : List ℤ) (ss : List ℕ) (c i r p : ℕ) (k l : ℤ) (o : Ordering) → pos 0 <ℤ from_place xs (i * (length ns + 2)) 0 → pos 0 <ℤ from_place xs (r * (length ns + 2)) 0 → pos 0 <ℤ from_place xs (i * (length ns + 2)) (c + 1) → pos 0 <ℤ from_place xs (r * (length ns + 2)) (c + 1)
-    → frac k (nat_abs (from_place xs (i * (length ns + 2)) 0)) ≡ key (variable_at ss) (tableau_of bs ns xs) i p → frac l (nat_abs (from_place xs (r * (length ns + 2)) 0)) ≡ key (variable_at ss) (tableau_of bs ns xs) r p
-    → o ≡ int_cmp (k *ℤ pos (nat_abs (from_place xs (r * (length ns + 2)) (c + 1)))) (l *ℤ pos (nat_abs (from_place xs (i * (length ns + 2)) (c + 1))))
-    → Compares (quotient_of ss (tableau_of bs ns xs) c i p) (quotient_of ss (tableau_of bs ns xs) c r p) o
-compared bs ns xs ss c i r p k l o bi br hi hr ki kr same =
-    subst (λ q. Compares q (quotient_of ss (tableau_of bs ns xs) c r p) o) (sym (quotient k i bi hi) ∙ ap (λ q. q *ℚ inv_ℚ ((tableau_of bs ns xs).cell i c)) ki)
-    (subst (λ q. Compares (frac k (nat_abs (from_place xs (i * (length ns + 2)) (c + 1)))) q o) (sym (quotient l r br hr) ∙ ap (λ q. q *ℚ inv_ℚ ((tableau_of bs ns xs).cell r c)) kr)
-    (compares_frac k l (nat_abs (from_place xs (i * (length ns + 2)) (c + 1))) (nat_abs (from_place xs (r * (length ns + 2)) (c + 1))) o (pos_abs (from_place xs (i * (length ns + 2)) (c + 1)) hi) (pos_abs (from_place xs (r * (length ns + 2)) (c + 1)) hr) same))
+pub compared : (n : WholeTableau) (c i r p : ℕ) (k l : ℤ) (o : Ordering) → IsTableau n → i < length n.basics → r < length n.basics → IsPositiveIn n i c → IsPositiveIn n r c → IsKeyNumber n i p k → IsKeyNumber n r p l
+    → o ≡ int_cmp (k *ℤ pos (nat_abs (row_of n r (c + 1)))) (l *ℤ pos (nat_abs (row_of n i (c + 1))))
+    → Compares (quotient_of n.starts (tableau n) c i p) (quotient_of n.starts (tableau n) c r p) o
+compared n c i r p k l o t li lr hi hr ki kr same =
+    subst (λ q. Compares q (quotient_of n.starts (tableau n) c r p) o) (sym (quotient k i li hi) ∙ ap (λ q. q *ℚ inv_ℚ ((tableau n).cell i c)) ki)
+    (subst (λ q. Compares (frac k (nat_abs (row_of n i (c + 1)))) q o) (sym (quotient l r lr hr) ∙ ap (λ q. q *ℚ inv_ℚ ((tableau n).cell r c)) kr)
+    (compares_frac k l (nat_abs (row_of n i (c + 1))) (nat_abs (row_of n r (c + 1))) o (pos_abs (row_of n i (c + 1)) hi) (pos_abs (row_of n r (c + 1)) hr) same))
   where
-    quotient : (k : ℤ) (i : ℕ) → pos 0 <ℤ from_place xs (i * (length ns + 2)) 0 → pos 0 <ℤ from_place xs (i * (length ns + 2)) (c + 1) → frac k (nat_abs (from_place xs (i * (length ns + 2)) 0)) *ℚ inv_ℚ ((tableau_of bs ns xs).cell i c) ≡ frac k (nat_abs (from_place xs (i * (length ns + 2)) (c + 1)))
-    quotient k i b t = quotient_is k (from_place xs (i * (length ns + 2)) (c + 1)) (from_place xs (i * (length ns + 2)) 0) b t
+    quotient : (k : ℤ) (i : ℕ) → i < length n.basics → IsPositiveIn n i c → frac k (nat_abs (row_of n i 0)) *ℚ inv_ℚ ((tableau n).cell i c) ≡ frac k (nat_abs (row_of n i (c + 1)))
+    quotient k i h u = quotient_is k (row_of n i (c + 1)) (row_of n i 0) (t.rows i h).positive u
 
 -- at the first place where two rows differ
 pub less_at : (n p : ℕ) (f g : ℕ → ℚ) → p < n → ((q : ℕ) → q < p → f q ≡ g q) → f p <ℚ g p → IsLexLess n f g
@@ -103,14 +104,30 @@ less_at n p f g h e l =
     }
 
 -- ---- the signs of cells
-pub cell_positive : (bs ns : List ℕ) (xs : List ℤ) (i c : ℕ) → pos 0 <ℤ from_place xs (i * (length ns + 2)) 0 → pos 0 <ℤ from_place xs (i * (length ns + 2)) (c + 1) → zero_ℚ <ℚ (tableau_of bs ns xs).cell i c
-cell_positive bs ns xs i c b t = (frac-lt (pos 0) (from_place xs (i * (length ns + 2)) (c + 1)) 1 (nat_abs (from_place xs (i * (length ns + 2)) 0)) (omega arith) (pos_abs (from_place xs (i * (length ns + 2)) 0) b)).1 (subst₂ (λ x y. x <ℤ y) (ring integer_ring (pos (nat_abs (from_place xs (i * (length ns + 2)) 0)) ∷ []) (num 0) (num 0 :* A) refl) (ring integer_ring (from_place xs (i * (length ns + 2)) (c + 1) ∷ []) A (A :* num 1) refl) t)
+module _ (n : WholeTableau) (i c : ℕ) (t : IsTableau n) (h : i < length n.basics) where
+  abbrev number : ℤ
+  number = row_of n i (c + 1)
 
-pub cell_not_positive : (bs ns : List ℕ) (xs : List ℤ) (i c : ℕ) → pos 0 <ℤ from_place xs (i * (length ns + 2)) 0 → from_place xs (i * (length ns + 2)) (c + 1) ≤ℤ pos 0 → (tableau_of bs ns xs).cell i c ≤ℚ zero_ℚ
-cell_not_positive bs ns xs i c b t = (frac-le (from_place xs (i * (length ns + 2)) (c + 1)) (pos 0) (nat_abs (from_place xs (i * (length ns + 2)) 0)) 1 (pos_abs (from_place xs (i * (length ns + 2)) 0) b) (omega arith)).1 (subst₂ (λ x y. x ≤ℤ y) (ring integer_ring (from_place xs (i * (length ns + 2)) (c + 1) ∷ []) A (A :* num 1) refl) (ring integer_ring (pos (nat_abs (from_place xs (i * (length ns + 2)) 0)) ∷ []) (num 0) (num 0 :* A) refl) t)
+  abbrev below : ℕ
+  below = nat_abs (row_of n i 0)
 
-pub number_positive : (bs ns : List ℕ) (xs : List ℤ) (i c : ℕ) → pos 0 <ℤ from_place xs (i * (length ns + 2)) 0 → zero_ℚ <ℚ (tableau_of bs ns xs).cell i c → pos 0 <ℤ from_place xs (i * (length ns + 2)) (c + 1)
-number_positive bs ns xs i c b t = subst₂ (λ x y. x <ℤ y) (ring integer_ring (pos (nat_abs (from_place xs (i * (length ns + 2)) 0)) ∷ []) (num 0 :* A) (num 0) refl) (ring integer_ring (from_place xs (i * (length ns + 2)) (c + 1) ∷ []) (A :* num 1) A refl) ((frac-lt (pos 0) (from_place xs (i * (length ns + 2)) (c + 1)) 1 (nat_abs (from_place xs (i * (length ns + 2)) 0)) (omega arith) (pos_abs (from_place xs (i * (length ns + 2)) 0) b)).0 t)
+  some : 0 < below
+  some = pos_abs (row_of n i 0) (t.rows i h).positive
+
+  none_below : pos 0 ≡ pos 0 *ℤ pos below
+  none_below = ring integer_ring (pos below ∷ []) (num 0) (num 0 :* A) refl
+
+  over_one : number ≡ number *ℤ pos 1
+  over_one = ring integer_ring (number ∷ []) A (A :* num 1) refl
+
+  pub cell_positive : IsPositiveIn n i c → zero_ℚ <ℚ (tableau n).cell i c
+  cell_positive u = (frac-lt (pos 0) number 1 below (omega arith) some).1 (subst₂ (λ x y. x <ℤ y) none_below over_one u)
+
+  pub cell_not_positive : number ≤ℤ pos 0 → (tableau n).cell i c ≤ℚ zero_ℚ
+  cell_not_positive u = (frac-le number (pos 0) below 1 some (omega arith)).1 (subst₂ (λ x y. x ≤ℤ y) over_one none_below u)
+
+  pub number_positive : zero_ℚ <ℚ (tableau n).cell i c → IsPositiveIn n i c
+  number_positive u = subst₂ (λ x y. x <ℤ y) (sym none_below) (sym over_one) ((frac-lt (pos 0) number 1 below (omega arith) some).0 u)
 
 -- ---- one more row
 module _ (k m : ℕ) (ss : List ℕ) (t : Tableau) (c : ℕ) where

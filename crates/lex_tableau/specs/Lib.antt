@@ -1,5 +1,6 @@
 pub mod Columns
 pub mod Entries
+pub mod Keys
 pub mod Laws
 pub mod PivotStops
 pub mod Pivots

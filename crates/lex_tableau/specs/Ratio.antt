@@ -1,13 +1,12 @@
 -- The lexicographic row among the first rows, and the order of two rows' quotients.
-use Rattle.std.specs.Prelude.{ℕ, ℤ, pos, ◌<ℤ◌, ◌+◌, ◌<◌, ◌≡◌, nat_abs, suc, List, [], length, get_or, Option, MatchOption}
+use Rattle.std.specs.Prelude.{ℕ, ◌<◌, ◌≡◌, suc, List, [], get_or, Option, MatchOption}
 use Rattle.std.specs.declared.cmp.Ordering.{Ordering}
 use Rattle.std.specs.declared.cmp.Ordering.TheVariants.{Less, Equal, Greater}
-use Rattle.rational.specs.Rational.{ℚ, frac, ◌*ℚ◌, inv_ℚ, zero_ℚ, ◌≤ℚ◌, ◌<ℚ◌}
+use Rattle.rational.specs.Rational.{ℚ, ◌*ℚ◌, inv_ℚ, zero_ℚ, ◌≤ℚ◌, ◌<ℚ◌}
 use Rattle.linear_systems.specs.Tableau.{Tableau}
 use Rattle.linear_systems.specs.Lex.{IsLexLess, IsLexPositive}
 use Rattle.linear_systems.specs.Rows.{key, HasDistinctVariables, IsLexicographicRow}
 use Rattle.lex_tableau.specs.Rows.{WholeTableau, tableau, tableau_of}
-use Rattle.whole_rows.specs.Lists.{row_at}
 
 -- the variables of a list, one after the other
 abbrev pub variable_at : List ℕ → ℕ → ℕ
@@ -53,18 +52,6 @@ HasPositiveKeys n =
 abbrev pub KeepsPositiveKeys : WholeTableau → ℕ → ℕ → WholeTableau → Type 0
 KeepsPositiveKeys n row col new = IsLeavingRow n col row → HasPositiveKeys n → HasPositiveKeys new
 
--- Of the tableau with these starts, variables and numbers
-
--- n over the coefficient of row i is entry p of its key
-abbrev pub IsKeyNumber : List ℕ → List ℕ → List ℕ → List ℤ → ℕ → ℕ → ℤ → Type 0
-IsKeyNumber starts basics nonbasics numbers i p n =
-    frac n (nat_abs (row_at (length nonbasics + 2) numbers i 0))
-    ≡ key (variable_at starts) (tableau_of basics nonbasics numbers) i p
-
--- row i has a positive entry in column c
-abbrev pub IsPositiveIn : List ℕ → List ℤ → ℕ → ℕ → Type 0
-IsPositiveIn nonbasics numbers i c = pos 0 <ℤ row_at (length nonbasics + 2) numbers i (c + 1)
-
--- no variable stands twice in it, whatever its numbers
+-- no variable stands twice among these, whatever the numbers
 abbrev pub HasEachOnce : List ℕ → List ℕ → Type 0
 HasEachOnce basics nonbasics = HasDistinctVariables (tableau_of basics nonbasics [])

@@ -5,8 +5,8 @@
 //! Definitions: `specs::Rows` has tableaux and the fractions that they stand for, `Starts` systems
 //! and their starts, `Pivots` the steps of a pivot in order and the tableau that it makes where they
 //! fit, `Ratio` the lexicographic row.
-//! Private words: the module `ratio`, which compares rows by their keys; `columns`, which keeps where
-//! the start's variables stand.
+//! Private words: `specs::Keys` and the module `ratio`, which compares rows by their keys; `columns`,
+//! which keeps where the start's variables stand.
 //! Lemmas for callers: `proofs::SystemLemmas` and `TableauLemmas`, determined by their fractions.
 //! A change here touches: `zero_sum_lp`, `lemke_pivot`, `reply_polytope`, `basis_enum` and
 //! `enummixed`.
@@ -33,7 +33,7 @@ pub fn tableaux_are_determined()
     ensures { TableauxAreDetermined }
 {}
 
-/// A system has one start, or one step of its rows is the first that does not fit.
+/// A system has at most one answer: its start, or the first step of its rows that does not fit.
 pub fn starts_are_single()
     ensures { StartsAreSingle }
 {}

@@ -1,122 +1,24 @@
 // The lexicographic row of a column.
-ghost use Rattle.std.specs.Prelude.{◌≡◌, suc, pos, ◌+◌, ◌*◌, ◌<◌, ◌≤◌, ◌<ℤ◌, ◌≤ℤ◌, true, false, length};
-ghost use Rattle.lex_tableau.specs.Columns.{AreColumnsOf};
-ghost use Rattle.lex_tableau.specs.Ratio.{Compares, HasEachOnce, IsBest, IsKeyNumber, IsPositiveIn, LexCompares, quotient_of};
-ghost use Rattle.lex_tableau.specs.Rows.{IsReachedFrom, tableau_of};
-ghost use Rattle.whole_rows.specs.Lists.{AllPartsFit, AreRows, row_at};
+ghost use Rattle.std.specs.Prelude.{◌≡◌, pos, ◌<ℤ◌, ◌≤ℤ◌, true, false};
 
 use std::cmp::Ordering;
 use whole_rows::compare_quotients;
 
-// The number that stands for an entry of a row's key: at place 0 for the right side, then for the
-// coefficients of the start's basic variables.
-fn key_number(
-    basics: &[u32],
-    nonbasics: &[u32],
-    numbers: &[i128],
-    starts: &[u32],
-    columns: &[u32],
-    row: usize,
-    place: usize,
-) -> i128
-    requires row_in { row < length basics.now }
-    requires place_in { place ≤ length starts.now }
-    requires shape { length numbers.now ≡ length basics.now * (length nonbasics.now + 2) }
-    requires fit { AllPartsFit numbers.now }
-    requires positive { pos 0 <ℤ row_at (length nonbasics.now + 2) numbers.now row 0 }
-    requires distinct { HasEachOnce basics.now nonbasics.now }
-    requires columns { AreColumnsOf nonbasics.now starts.now columns.now }
-    ensures { IsKeyNumber starts.now basics.now nonbasics.now numbers.now row place result }
-{
-    let first = row * (nonbasics.len() + 2);
-    if place == 0 {
-        return numbers[first + (nonbasics.len() + 1)];
-    }
-    let column = columns[place - 1] as usize;
-    if column > 0 {
-        numbers[first + column]
-    } else if basics[row] == starts[place - 1] {
-        numbers[first]
-    } else {
-        0
-    }
-}
-
-// The order of two rows' quotients at a place.
-fn compare_at(
-    basics: &[u32],
-    nonbasics: &[u32],
-    numbers: &[i128],
-    starts: &[u32],
-    columns: &[u32],
-    column: usize,
-    row: usize,
-    best: usize,
-    place: usize,
-) -> Ordering
-    requires row_in { row < length basics.now }
-    requires best_in { best < length basics.now }
-    requires column_in { column < length nonbasics.now }
-    requires place_in { place ≤ length starts.now }
-    requires shape { length numbers.now ≡ length basics.now * (length nonbasics.now + 2) }
-    requires fit { AllPartsFit numbers.now }
-    requires are_rows { AreRows (length basics.now) (length nonbasics.now + 2) numbers.now }
-    requires distinct { HasEachOnce basics.now nonbasics.now }
-    requires columns { AreColumnsOf nonbasics.now starts.now columns.now }
-    requires positive { IsPositiveIn nonbasics.now numbers.now row column }
-    requires best_positive { IsPositiveIn nonbasics.now numbers.now best column }
-    ensures { Compares
-        (quotient_of starts.now (tableau_of basics.now nonbasics.now numbers.now) column row place)
-        (quotient_of starts.now (tableau_of basics.now nonbasics.now numbers.now) column best place)
-        result }
-{
-    let size = nonbasics.len() + 2;
-    compare_quotients(
-        key_number(basics, nonbasics, numbers, starts, columns, row, place),
-        numbers[row * size + (column + 1)],
-        key_number(basics, nonbasics, numbers, starts, columns, best, place),
-        numbers[best * size + (column + 1)],
-    )
-}
-
-// The order of two rows' quotients, place by place.
-fn compare_rows(
-    basics: &[u32],
-    nonbasics: &[u32],
-    numbers: &[i128],
-    starts: &[u32],
-    columns: &[u32],
-    rated: usize,
-    column: usize,
-    row: usize,
-    best: usize,
-) -> Ordering
-    requires row_in { row < length basics.now }
-    requires best_in { best < length basics.now }
-    requires column_in { column < length nonbasics.now }
-    requires rated_in { rated ≤ length starts.now }
-    requires shape { length numbers.now ≡ length basics.now * (length nonbasics.now + 2) }
-    requires fit { AllPartsFit numbers.now }
-    requires are_rows { AreRows (length basics.now) (length nonbasics.now + 2) numbers.now }
-    requires distinct { HasEachOnce basics.now nonbasics.now }
-    requires columns { AreColumnsOf nonbasics.now starts.now columns.now }
-    requires positive { IsPositiveIn nonbasics.now numbers.now row column }
-    requires best_positive { IsPositiveIn nonbasics.now numbers.now best column }
-    ensures { LexCompares (suc rated)
-        (quotient_of starts.now (tableau_of basics.now nonbasics.now numbers.now) column row)
-        (quotient_of starts.now (tableau_of basics.now nonbasics.now numbers.now) column best)
-        result }
-{
-    for place in 0..rated + 1 {
-        match compare_at(
-            basics, nonbasics, numbers, starts, columns, column, row, best, place,
-        ) {
-            Ordering::Less => return Ordering::Less,
-            Ordering::Equal => {}
-            Ordering::Greater => return Ordering::Greater,
-        }
-    }
-    Ordering::Equal
+/// The lists of a tableau, from which the keys of its rows are read.
+#[derive(Clone, Copy)]
+pub(crate) struct Keys<'a> {
+    /// The basic variables of the start.
+    pub(crate) starts: &'a [u32],
+    /// The column of each of them, counted from 1, and 0 where it is basic.
+    pub(crate) columns: &'a [u32],
+    /// The basic variables, row by row.
+    pub(crate) basics: &'a [u32],
+    /// The nonbasic variables, column by column.
+    pub(crate) nonbasics: &'a [u32],
+    /// How many rows are rated.
+    pub(crate) rated: usize,
+    /// The numbers, row by row.
+    pub(crate) numbers: &'a [i128],
 }
 
 // Whether a number is above 0.
@@ -127,74 +29,110 @@ fn is_positive(n: i128) -> bool
     n > 0
 }
 
-// The best row after one more.
-fn next_best(
-    basics: &[u32],
-    nonbasics: &[u32],
-    numbers: &[i128],
-    starts: &[u32],
-    columns: &[u32],
-    rated: usize,
-    column: usize,
-    row: usize,
-    best: Option<usize>,
-) -> Option<usize>
-    requires row_in { row < rated }
-    requires rows { rated ≤ length basics.now }
-    requires rated_in { rated ≤ length starts.now }
-    requires column_in { column < length nonbasics.now }
-    requires shape { length numbers.now ≡ length basics.now * (length nonbasics.now + 2) }
-    requires fit { AllPartsFit numbers.now }
-    requires are_rows { AreRows (length basics.now) (length nonbasics.now + 2) numbers.now }
-    requires reached { IsReachedFrom rated starts.now
-        (tableau_of basics.now nonbasics.now numbers.now) }
-    requires columns { AreColumnsOf nonbasics.now starts.now columns.now }
-    requires best { IsBest row rated starts.now
-        (tableau_of basics.now nonbasics.now numbers.now) column best }
-    ensures { IsBest (suc row) rated starts.now
-        (tableau_of basics.now nonbasics.now numbers.now) column result }
-{
-    if !is_positive(numbers[row * (nonbasics.len() + 2) + (column + 1)]) {
-        return best;
-    }
-    let Some(old) = best else {
-        return Some(row);
-    };
-    match compare_rows(
-        basics, nonbasics, numbers, starts, columns, rated, column, row, old,
-    ) {
-        Ordering::Less => Some(row),
-        _ => Some(old),
-    }
-}
+impl<'a> Keys<'a> {
+    ghost use Rattle.std.specs.Prelude.{suc, ◌<◌, ◌≤◌, length};
+    ghost use Rattle.lex_tableau.specs.Keys.{AreKeys, IsKeyNumber, IsPositiveIn, tableau_in};
+    ghost use Rattle.lex_tableau.specs.Ratio.{Compares, IsBest, IsRatioRow, LexCompares, quotient_of};
+    ghost use Rattle.lex_tableau.specs.Rows.{tableau};
 
-// The lexicographic row of a column; `None` where no rated row has a positive entry there.
-pub fn ratio_row(
-    basics: &[u32],
-    nonbasics: &[u32],
-    numbers: &[i128],
-    starts: &[u32],
-    columns: &[u32],
-    rated: usize,
-    column: usize,
-) -> Option<usize>
-    requires rows { rated ≤ length basics.now }
-    requires rated_in { rated ≤ length starts.now }
-    requires column_in { column < length nonbasics.now }
-    requires shape { length numbers.now ≡ length basics.now * (length nonbasics.now + 2) }
-    requires fit { AllPartsFit numbers.now }
-    requires are_rows { AreRows (length basics.now) (length nonbasics.now + 2) numbers.now }
-    requires reached { IsReachedFrom rated starts.now
-        (tableau_of basics.now nonbasics.now numbers.now) }
-    requires columns { AreColumnsOf nonbasics.now starts.now columns.now }
-    ensures { IsBest rated rated starts.now
-        (tableau_of basics.now nonbasics.now numbers.now) column result }
-{
-    let mut best = None;
-    for row in 0..rated {
-        best = next_best(
-            basics, nonbasics, numbers, starts, columns, rated, column, row, best,
-        );
+    // The number that stands for an entry of a row's key: at place 0 for the right side, then for
+    // the coefficients of the start's basic variables.
+    fn number(&self, row: usize, place: usize) -> i128
+        requires keys { AreKeys self.now }
+        requires row_in { row < length self.now.basics.now }
+        requires place_in { place ≤ length self.now.starts.now }
+        ensures { IsKeyNumber (tableau_in self.now) row place result }
+    {
+        let first = row * (self.nonbasics.len() + 2);
+        if place == 0 {
+            return self.numbers[first + (self.nonbasics.len() + 1)];
+        }
+        let column = self.columns[place - 1] as usize;
+        if column > 0 {
+            self.numbers[first + column]
+        } else if self.basics[row] == self.starts[place - 1] {
+            self.numbers[first]
+        } else {
+            0
+        }
     }
-    best
+
+    // The order of two rows' quotients at a place.
+    fn compare_at(&self, column: usize, row: usize, best: usize, place: usize) -> Ordering
+        requires keys { AreKeys self.now }
+        requires row_in { row < length self.now.basics.now }
+        requires best_in { best < length self.now.basics.now }
+        requires column_in { column < length self.now.nonbasics.now }
+        requires place_in { place ≤ length self.now.starts.now }
+        requires positive { IsPositiveIn (tableau_in self.now) row column }
+        requires best_positive { IsPositiveIn (tableau_in self.now) best column }
+        ensures { let t = tableau_in self.now in
+            Compares (quotient_of t.starts (tableau t) column row place)
+            (quotient_of t.starts (tableau t) column best place) result }
+    {
+        let size = self.nonbasics.len() + 2;
+        compare_quotients(
+            self.number(row, place),
+            self.numbers[row * size + (column + 1)],
+            self.number(best, place),
+            self.numbers[best * size + (column + 1)],
+        )
+    }
+
+    // The order of two rows' quotients, place by place.
+    fn compare_rows(&self, column: usize, row: usize, best: usize) -> Ordering
+        requires keys { AreKeys self.now }
+        requires row_in { row < length self.now.basics.now }
+        requires best_in { best < length self.now.basics.now }
+        requires column_in { column < length self.now.nonbasics.now }
+        requires positive { IsPositiveIn (tableau_in self.now) row column }
+        requires best_positive { IsPositiveIn (tableau_in self.now) best column }
+        ensures { let t = tableau_in self.now in
+            LexCompares (suc t.rated) (quotient_of t.starts (tableau t) column row)
+            (quotient_of t.starts (tableau t) column best) result }
+    {
+        for place in 0..self.rated + 1 {
+            match self.compare_at(column, row, best, place) {
+                Ordering::Less => return Ordering::Less,
+                Ordering::Equal => {}
+                Ordering::Greater => return Ordering::Greater,
+            }
+        }
+        Ordering::Equal
+    }
+
+    // The best row after one more.
+    fn next_best(&self, column: usize, row: usize, best: Option<usize>) -> Option<usize>
+        requires keys { AreKeys self.now }
+        requires row_in { row < self.now.rated }
+        requires column_in { column < length self.now.nonbasics.now }
+        requires best { let t = tableau_in self.now in
+            IsBest row t.rated t.starts (tableau t) column best }
+        ensures { let t = tableau_in self.now in
+            IsBest (suc row) t.rated t.starts (tableau t) column result }
+    {
+        if !is_positive(self.numbers[row * (self.nonbasics.len() + 2) + (column + 1)]) {
+            return best;
+        }
+        let Some(old) = best else {
+            return Some(row);
+        };
+        match self.compare_rows(column, row, old) {
+            Ordering::Less => Some(row),
+            _ => Some(old),
+        }
+    }
+
+    /// The lexicographic row of a column; `None` where no rated row has a positive entry there.
+    pub(crate) fn ratio_row(&self, column: usize) -> Option<usize>
+        requires keys { AreKeys self.now }
+        requires column_in { column < length self.now.nonbasics.now }
+        ensures { IsRatioRow (tableau_in self.now) column result }
+    {
+        let mut best = None;
+        for row in 0..self.rated {
+            best = self.next_best(column, row, best);
+        }
+        best
+    }
 }

@@ -16,7 +16,7 @@ ghost use Rattle.rational.specs.Tests.{sign_of};
 
 use crate::columns::{exchange_columns, no_columns};
 use crate::pivot_count::PivotCount;
-use crate::ratio::ratio_row;
+use crate::ratio::Keys;
 use crate::system::System;
 use frac128::{Frac, Memory, Unfit};
 use std::alloc::Global;
@@ -325,44 +325,35 @@ impl Tableau {
         ensures best { IsRatioRow self.now col result }
         ensures valid { IsTableau self.now }
     {
-        ratio_row(
-            self.basics.as_slice(),
-            self.nonbasics.as_slice(),
-            self.numbers.as_slice(),
-            self.starts.as_slice(),
-            self.columns.as_slice(),
-            self.rated,
-            col,
-        )
+        let keys = Keys {
+            starts: self.starts.as_slice(),
+            columns: self.columns.as_slice(),
+            basics: self.basics.as_slice(),
+            nonbasics: self.nonbasics.as_slice(),
+            rated: self.rated,
+            numbers: self.numbers.as_slice(),
+        };
+        keys.ratio_row(col)
     }
 
-    // The tableau with these numbers, which the pivot made. Its variables are written over those
-    // lists.
-    fn with_numbers(
-        &self,
-        starts: Vec<u32>,
-        columns: Vec<u32>,
-        basics: Vec<u32>,
-        nonbasics: Vec<u32>,
-        numbers: Vec<i128>,
-        row: usize,
-        col: usize,
-    ) -> Result<Tableau, Memory>
+    // The tableau whose numbers, which the pivot made, are in a room. Its variables are written over
+    // the other lists there.
+    fn written_into(&self, room: Room, row: usize, col: usize) -> Result<Tableau, Memory>
         requires row_in { row < self.now.rated }
         requires col_in { col < length self.now.nonbasics }
         requires entry { (tableau self.now).cell row col ≢ zero_ℚ }
-        requires shape { length numbers.items ≡ length self.now.numbers }
-        requires pivot_row { HasPivotRow self.now row col numbers.items }
-        requires others { HasOtherRows self.now row col numbers.items }
+        requires shape { length room.numbers.items ≡ length self.now.numbers }
+        requires pivot_row { HasPivotRow self.now row col room.numbers.items }
+        requires others { HasOtherRows self.now row col room.numbers.items }
         ensures pivot { IfOk result (IsPivotOf self.now row col) }
         ensures solutions { IfOk result (HasSolutionsOf self.now) }
         ensures keys { IfOk result (KeepsPositiveKeys self.now row col) }
         ensures valid { IfOk result IsTableau }
     {
-        let starts = copied(starts, self.starts.as_slice())?;
-        let mut columns = copied(columns, self.columns.as_slice())?;
-        let mut basics = copied(basics, self.basics.as_slice())?;
-        let mut nonbasics = copied(nonbasics, self.nonbasics.as_slice())?;
+        let starts = copied(room.starts, self.starts.as_slice())?;
+        let mut columns = copied(room.columns, self.columns.as_slice())?;
+        let mut basics = copied(room.basics, self.basics.as_slice())?;
+        let mut nonbasics = copied(room.nonbasics, self.nonbasics.as_slice())?;
         exchange_columns(
             columns.as_mut_slice(),
             self.starts.as_slice(),
@@ -380,7 +371,7 @@ impl Tableau {
             basics,
             nonbasics,
             rated: self.rated,
-            numbers,
+            numbers: room.numbers,
         })
     }
 
@@ -412,18 +403,10 @@ impl Tableau {
         ensures counted { pivots.new ≡ pivots.old + 1 }
     {
         pivots.tick();
-        let room = Room::of(alloc, spent);
-        let mut numbers = filled(alloc, room.numbers, self.numbers.len())?;
-        self.write_numbers(numbers.as_mut_slice(), row, col)?;
-        Ok(self.with_numbers(
-            room.starts,
-            room.columns,
-            room.basics,
-            room.nonbasics,
-            numbers,
-            row,
-            col,
-        )?)
+        let mut room = Room::of(alloc, spent);
+        room.numbers = filled(alloc, room.numbers, self.numbers.len())?;
+        self.write_numbers(room.numbers.as_mut_slice(), row, col)?;
+        Ok(self.written_into(room, row, col)?)
     }
 
     /// The value of a variable where the nonbasic ones are 0: the right side of its row, and 0

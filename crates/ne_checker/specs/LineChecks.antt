@@ -84,11 +84,11 @@ tree_check tree text = do
   limited judged
 
 -- ---- laws
--- a table and a text have one answer
+-- a table and a text have at most one answer
 abbrev pub TableChecksAreSingle : Type 0
 TableChecksAreSingle = (table : GameTable) (text : List ℕ) → IsSingle (table_check table text)
 
--- a tree in which all players recall and a text have one answer
+-- a tree in which all players recall and a text have at most one answer
 abbrev pub TreeChecksAreSingle : Type 0
 TreeChecksAreSingle =
     (tree : GameTree) (text : List ℕ) → IsGameTree tree → AllRecall tree

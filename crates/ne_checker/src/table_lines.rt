@@ -67,7 +67,7 @@ pub fn check_table_lines(alloc: Global, table: &Table, text: &[u8]) -> Result<Ve
     within_limit(verdicts)
 }
 
-/// A table and a text have one answer.
+/// A table and a text have at most one answer.
 pub fn table_checks_are_single()
     ensures { TableChecksAreSingle }
 {

@@ -92,7 +92,7 @@ pub fn check_tree_lines(
     within_limit(verdicts)
 }
 
-/// A tree in which all players recall and a text have one answer.
+/// A tree in which all players recall and a text have at most one answer.
 pub fn tree_checks_are_single()
     ensures { TreeChecksAreSingle }
 {

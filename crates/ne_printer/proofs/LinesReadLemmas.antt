@@ -84,7 +84,7 @@ pub empty_line : (line text : List ℕ) → line ≡ codes "NE," ++ text → len
 empty_line line [] e none = record { parts = []; is_line = e; are_fractions = tt }
 empty_line line (b ∷ text) e none = absurd (omega arith)
 
--- the parts of a line have one list of entries
+-- the parts of a line have at most one list of entries
 parts_told : (parts : List (List ℕ)) (one other : List ℚ) → AllZip IsFraction parts one → AllZip IsFraction parts other → one ≡ other
 parts_told [] [] [] h k = refl
 parts_told [] [] (r ∷ other) h k = absurd k
@@ -93,7 +93,7 @@ parts_told (part ∷ parts) [] other h k = absurd h
 parts_told (part ∷ parts) (q ∷ one) [] h k = absurd k
 parts_told (part ∷ parts) (q ∷ one) (r ∷ other) h k = ap₂ (λ v vs. v ∷ vs) (one_fraction part q r h.0 k.0) (parts_told parts one other h.1 k.1)
 
--- a line has one list of entries
+-- a line has at most one list of entries
 entries_told : (line : List ℕ) (parts others : List (List ℕ)) (one other : List ℚ) → line ≡ codes "NE," ++ join_with_byte 44 parts → line ≡ codes "NE," ++ join_with_byte 44 others → AllZip IsFraction parts one → AllZip IsFraction others other → one ≡ other
 entries_told line [] others [] other e d h k =
     let empty : join_with_byte 44 others ≡ [] = cc in
@@ -107,7 +107,7 @@ entries_told line (part ∷ parts) (next ∷ others) one other e d h k =
     let same : part ∷ parts ≡ next ∷ others = sym (split_joined part parts one h) ∙ ap (slice_split (λ b. b == 44)) joined ∙ split_joined next others other k in
     parts_told (part ∷ parts) one other h (subst (λ ps. AllZip IsFraction ps other) (sym same) k)
 
--- lines are read in one way
+-- a line has at most one answer
 pub line_told : (line : List ℕ) → IsSingle (line_in line)
 line_told line (Ok one) (Ok other) h k = ap Ok (entries_told line h.parts k.parts one other h.is_line k.is_line h.are_fractions k.are_fractions)
 line_told line (Ok one) (Err stops.Bad) h k = absurd (k one h)

@@ -1,6 +1,6 @@
 // Lines of equilibria, read back.
-ghost use Rattle.std.specs.Prelude.{◌≡◌, ◌≢◌, ◌+◌, ◌-◌, ◌*◌, ◌<◌, ◌≤◌, ◌^◌, ℕ, [], ◌++◌, ◌∷◌, ◌↔◌, IsTrue, length, pos, MatchOption};
-ghost use Rattle.std.specs.Char.{IsAsciiDigit, is_ascii_digit, digit_value};
+ghost use Rattle.std.specs.Prelude.{◌≡◌, ◌≢◌, ◌-◌, ◌<◌, ◌≤◌, ◌^◌, ℕ, [], ◌++◌, ◌∷◌, ◌↔◌, IsTrue, length, pos, MatchOption};
+ghost use Rattle.std.specs.Char.{is_ascii_digit};
 ghost use Rattle.std.specs.List.{All, list_all};
 ghost use Rattle.std.specs.Str.Parse.{digits_value};
 ghost use Rattle.answers.specs.Answers.{Gives, map_ok};
@@ -35,29 +35,20 @@ impl<T: Drop> From<AllocFailed<T>> for LineStop {
     }
 }
 
-// A number with one more digit, where it is not above the greatest.
-fn with_digit(number: u128, digit: u8) -> Option<u128>
-    requires number { number ≤ 2 ^ 127 - 1 }
-    requires digit { IsAsciiDigit digit }
-    ensures { MatchOption result (2 ^ 127 - 1 < number * 10 + digit_value digit)
-        (λ n. (n ≡ number * 10 + digit_value digit) × (n ≤ 2 ^ 127 - 1)) }
-{
-    let unit = u128::from(digit - b'0');
-    if number > (MOST - unit) / 10 {
-        return None;
-    }
-    Some(number * 10 + unit)
-}
-
 // The number that digits stand for, where it is not above the greatest.
 fn value(digits: &[u8]) -> Option<u128>
     requires { IsShortNumeral digits.now }
     ensures { MatchOption result (2 ^ 127 - 1 < digits_value 10 digits.now)
         (λ n. (n ≡ digits_value 10 digits.now) × (n ≤ 2 ^ 127 - 1)) }
 {
-    let mut number = 0;
-    for digit in digits {
-        number = with_digit(number, *digit)?;
+    let Ok(text) = str::from_utf8(digits) else {
+        return None;
+    };
+    let Ok(number) = text.parse::<u128>() else {
+        return None;
+    };
+    if number > MOST {
+        return None;
     }
     Some(number)
 }
@@ -169,7 +160,7 @@ pub fn read_line(alloc: Global, line: &[u8]) -> Result<Vec<Frac>, LineStop>
     entries_in(alloc, text)
 }
 
-/// A line is read in one way.
+/// A line has at most one answer: its entries, or that it has none.
 pub fn lines_are_single()
     ensures { LinesAreSingle }
 {}

@@ -10,9 +10,9 @@ use Rattle.rational.specs.Rational.{ℚ}
 use Rattle.game_core.specs.declared.token.Token.{Token}
 use Rattle.game_core.specs.declared.token.Token.TheVariants.{Left, Right, Word}
 use Rattle.file_parts.specs.Parts.{whole_number, IsComment, IsOpen, ArePlayers}
-use Rattle.file_parts.specs.Reading.{left_at, right_at, text_at, whole_at, count_at, opens, after_text}
+use Rattle.file_parts.specs.Reading.{opening_brace_at, closing_brace_at, text_at, whole_at, count_at, opens, after_text}
 use Rattle.file_parts.specs.Parsing.{Parsed, ◌>>=◌, wanted, passed, parse_each, parse_names, parse_payoffs, parse_title}
-use Rattle.file_parts.proofs.TokenLaws.{names_is, right_is, comment_is, whole_is, whole_again}
+use Rattle.file_parts.proofs.TokenLaws.{names_is, closing_brace_is, comment_is, whole_is, whole_again}
 use Rattle.file_parts.proofs.HeaderLaws.{title_is}
 use Rattle.file_parts.proofs.NumberLaws.{payoffs_are, repeat_are}
 use Rattle.file_parts.proofs.ReaderLemmas.{chain, ReadsAs, FaultsAre, bind_faults, each_faults, pure_faults, ok_same, err_same, ok_err, bind_ok, bind_err, reads_alone, each_reader}
@@ -64,11 +64,11 @@ payoffs_read n front payoffs r =
     let p = payoffs_are n front (payoffs, []) (sym (value_payoffs PayoffCount n front) ∙ ap value (reads_alone (parse_payoffs PayoffCount n) front payoffs r)) in
     subst (ArePayoffsOf n) (sym (append-nil p.front) ∙ sym p.is) (payoffs, p.are_numbers, p.all)
 
-closed_read : (n : ℕ) (front : List Token) (outcomes : List (List ℚ)) (x : List (List ℚ) × List Token) → (list : List Token) × AreOutcomes n list x.0 × (front ≡ list ++ x.1) → (o : Option (List Token)) → right_at x.1 ≡ o → ◌≡◌ {A = Parsed NfgKind (List (List ℚ))} (chain (passed Outcome x.1 o) (λ rest. Ok (x.0, rest.1))) (Ok (outcomes, [])) → AreClosedOutcomes n outcomes front
+closed_read : (n : ℕ) (front : List Token) (outcomes : List (List ℚ)) (x : List (List ℚ) × List Token) → (list : List Token) × AreOutcomes n list x.0 × (front ≡ list ++ x.1) → (o : Option (List Token)) → closing_brace_at x.1 ≡ o → ◌≡◌ {A = Parsed NfgKind (List (List ℚ))} (chain (passed Outcome x.1 o) (λ rest. Ok (x.0, rest.1))) (Ok (outcomes, [])) → AreClosedOutcomes n outcomes front
 closed_read n front outcomes x l None r e = absurd (ok_err (outcomes, []) (Outcome, x.1) (sym e))
 closed_read n front outcomes x l (Some rest) r e =
     let same = ok_same (x.0, rest) (outcomes, []) e in
-    let all : AreClosedOutcomes n x.0 front = (l.0, l.1, l.2 ∙ ap (λ (q : List Token). l.0 ++ q) (right_is x.1 rest r ∙ ap (λ (z : List (List ℚ) × List Token). Right ∷ z.1) same)) in
+    let all : AreClosedOutcomes n x.0 front = (l.0, l.1, l.2 ∙ ap (λ (q : List Token). l.0 ++ q) (closing_brace_is x.1 rest r ∙ ap (λ (z : List (List ℚ) × List Token). Right ∷ z.1) same)) in
     subst (λ (z : List (List ℚ) × List Token). AreClosedOutcomes n z.0 front) same all
 
 -- outcomes and their closing brace
@@ -76,7 +76,7 @@ pub outcomes_read : (n : ℕ) (front : List Token) (outcomes : List (List ℚ)) 
 outcomes_read n front outcomes r =
     let a = bind_ok (parse_outcomes n (length front) front) _ (outcomes, []) (reads_alone (closed_outcomes n (λ outcomes. outcomes)) front outcomes r) in
     let o = outcomes_are n (length front) front a.0 (sym (value_outcomes n (length front) front) ∙ ap value a.1) in
-    closed_read n front outcomes a.0 o (right_at a.0.1) refl a.2
+    closed_read n front outcomes a.0 o (closing_brace_at a.0.1) refl a.2
 
 -- numbers of outcomes
 pub numbers_read : (outcomes n : ℕ) (front : List Token) (numbers : List ℕ) → ReadsAs (λ tokens. parse_each (parse_number outcomes) 0 n tokens) front numbers → AreNumbersOf outcomes n front
@@ -97,20 +97,20 @@ pub strategies_faults : (n : ℕ) → FaultsAre (λ k _. k ≡ Strategies) (pars
 unfolding parse_strategies parse_counted parse_named
 strategies_faults n =
     let P : NfgKind → List Token → Type 0 = λ k _. k ≡ Strategies in
-    let counted : FaultsAre P (parse_counted n) = bind_faults P (λ tokens. parse_each parse_count 0 n tokens) (λ counts tokens. passed Strategies tokens (right_at tokens) >>= λ rest. Ok (map counted_names counts, rest.1)) (each_faults P parse_count (λ _. wanted_faults Strategies count_at) 0 n)
-    (λ counts. bind_faults P (λ tokens. passed Strategies tokens (right_at tokens)) (λ _ tokens. Ok (map counted_names counts, tokens)) (passed_faults Strategies right_at) (λ _. pure_faults P (map counted_names counts))) in
-    let named : FaultsAre P (parse_named n) = bind_faults P (λ tokens. parse_each (λ _. parse_names Strategies) 0 n tokens) (λ lists tokens. passed Strategies tokens (right_at tokens) >>= λ rest. Ok (lists, rest.1)) (each_faults P (λ _. parse_names Strategies) (λ _. names_faults Strategies) 0 n)
-    (λ lists. bind_faults P (λ tokens. passed Strategies tokens (right_at tokens)) (λ _ tokens. Ok (lists, tokens)) (passed_faults Strategies right_at) (λ _. pure_faults P lists)) in
-    bind_faults P (λ tokens. passed Strategies tokens (left_at tokens)) (λ _ tokens. if opens tokens then parse_named n tokens else parse_counted n tokens) (passed_faults Strategies left_at) (λ _. if_faults P opens (parse_named n) (parse_counted n) named counted)
+    let counted : FaultsAre P (parse_counted n) = bind_faults P (λ tokens. parse_each parse_count 0 n tokens) (λ counts tokens. passed Strategies tokens (closing_brace_at tokens) >>= λ rest. Ok (map counted_names counts, rest.1)) (each_faults P parse_count (λ _. wanted_faults Strategies count_at) 0 n)
+    (λ counts. bind_faults P (λ tokens. passed Strategies tokens (closing_brace_at tokens)) (λ _ tokens. Ok (map counted_names counts, tokens)) (passed_faults Strategies closing_brace_at) (λ _. pure_faults P (map counted_names counts))) in
+    let named : FaultsAre P (parse_named n) = bind_faults P (λ tokens. parse_each (λ _. parse_names Strategies) 0 n tokens) (λ lists tokens. passed Strategies tokens (closing_brace_at tokens) >>= λ rest. Ok (lists, rest.1)) (each_faults P (λ _. parse_names Strategies) (λ _. names_faults Strategies) 0 n)
+    (λ lists. bind_faults P (λ tokens. passed Strategies tokens (closing_brace_at tokens)) (λ _ tokens. Ok (lists, tokens)) (passed_faults Strategies closing_brace_at) (λ _. pure_faults P lists)) in
+    bind_faults P (λ tokens. passed Strategies tokens (opening_brace_at tokens)) (λ _ tokens. if opens tokens then parse_named n tokens else parse_counted n tokens) (passed_faults Strategies opening_brace_at) (λ _. if_faults P opens (parse_named n) (parse_counted n) named counted)
 
 outcome_faults : (n : ℕ) → FaultsAre (λ k _. k ≡ Outcome) (parse_outcome n)
 unfolding parse_outcome
 outcome_faults n =
     let P : NfgKind → List Token → Type 0 = λ k _. k ≡ Outcome in
-    bind_faults P (λ tokens. passed Outcome tokens (left_at tokens)) (λ _ tokens. wanted Outcome tokens (text_at tokens) >>= λ name. parse_payoffs Outcome n name.1 >>= λ payoffs. passed Outcome payoffs.1 (right_at payoffs.1) >>= λ rest. Ok (payoffs.0, rest.1)) (passed_faults Outcome left_at)
-    (λ _. bind_faults P (λ tokens. wanted Outcome tokens (text_at tokens)) (λ _ tokens. parse_payoffs Outcome n tokens >>= λ payoffs. passed Outcome payoffs.1 (right_at payoffs.1) >>= λ rest. Ok (payoffs.0, rest.1)) (wanted_faults Outcome text_at)
-    (λ _. bind_faults P (parse_payoffs Outcome n) (λ payoffs tokens. passed Outcome tokens (right_at tokens) >>= λ rest. Ok (payoffs, rest.1)) (payoffs_faults Outcome n)
-    (λ payoffs. bind_faults P (λ tokens. passed Outcome tokens (right_at tokens)) (λ _ tokens. Ok (payoffs, tokens)) (passed_faults Outcome right_at) (λ _. pure_faults P payoffs))))
+    bind_faults P (λ tokens. passed Outcome tokens (opening_brace_at tokens)) (λ _ tokens. wanted Outcome tokens (text_at tokens) >>= λ name. parse_payoffs Outcome n name.1 >>= λ payoffs. passed Outcome payoffs.1 (closing_brace_at payoffs.1) >>= λ rest. Ok (payoffs.0, rest.1)) (passed_faults Outcome opening_brace_at)
+    (λ _. bind_faults P (λ tokens. wanted Outcome tokens (text_at tokens)) (λ _ tokens. parse_payoffs Outcome n tokens >>= λ payoffs. passed Outcome payoffs.1 (closing_brace_at payoffs.1) >>= λ rest. Ok (payoffs.0, rest.1)) (wanted_faults Outcome text_at)
+    (λ _. bind_faults P (parse_payoffs Outcome n) (λ payoffs tokens. passed Outcome tokens (closing_brace_at tokens) >>= λ rest. Ok (payoffs, rest.1)) (payoffs_faults Outcome n)
+    (λ payoffs. bind_faults P (λ tokens. passed Outcome tokens (closing_brace_at tokens)) (λ _ tokens. Ok (payoffs, tokens)) (passed_faults Outcome closing_brace_at) (λ _. pure_faults P payoffs))))
 
 outcomes_faults : (n most : ℕ) → FaultsAre (λ k _. k ≡ Outcome) (parse_outcomes n most)
 outcomes_faults n zero = pure_faults (λ k _. k ≡ Outcome) []
@@ -122,7 +122,7 @@ outcomes_faults n (suc most) =
 pub closed_faults : (n : ℕ) → FaultsAre (λ k _. k ≡ Outcome) (closed_outcomes n (λ outcomes. outcomes))
 closed_faults n tokens fault e =
     let P : NfgKind → List Token → Type 0 = λ k _. k ≡ Outcome in
-    bind_faults P (parse_outcomes n (length tokens)) (λ outcomes rest. passed Outcome rest (right_at rest) >>= λ after. Ok (outcomes, after.1)) (outcomes_faults n (length tokens)) (λ outcomes. bind_faults P (λ rest. passed Outcome rest (right_at rest)) (λ _ rest. Ok (outcomes, rest)) (passed_faults Outcome right_at) (λ _. pure_faults P outcomes)) tokens fault e
+    bind_faults P (parse_outcomes n (length tokens)) (λ outcomes rest. passed Outcome rest (closing_brace_at rest) >>= λ after. Ok (outcomes, after.1)) (outcomes_faults n (length tokens)) (λ outcomes. bind_faults P (λ rest. passed Outcome rest (closing_brace_at rest)) (λ _ rest. Ok (outcomes, rest)) (passed_faults Outcome closing_brace_at) (λ _. pure_faults P outcomes)) tokens fault e
 
 -- a whole number that no outcome has, or no whole number
 abbrev pub IsNumberFault : NfgKind → List Token → Type 0

@@ -57,7 +57,7 @@ table_again tokens table f =
     let p = parts_again tokens table f in
     rw (p.is_front, p.is_rest) refl
 
--- a file has one table
+-- tokens stand for at most one table
 pub one_table : (tokens : List Token) (one other : GameTable) → IsTableFile tokens one → IsTableFile tokens other → one ≡ other
 one_table tokens one other f g = same_Some one other (sym (table_again tokens one f) ∙ table_again tokens other g)
 

@@ -1,4 +1,4 @@
--- The tokens of a source have one answer: a table, a limit that is passed, or a fault with its kind and offset.
+-- The tokens of a source have at most one answer: a table, a limit that is passed, or a fault with its kind and offset.
 use Rattle.std.proofs.Common.{◌≡◌, ℕ, List, length, ◌⊎◌, inl, inr, Ok, Err, refl, sym, ap, ◌∙◌}
 use Rattle.answers.specs.Answers.{IsSingle}
 use Rattle.game_core.specs.TokenList.{TokenList, bare}

@@ -8,9 +8,9 @@ use Rattle.game_core.specs.declared.token.Token.{Token}
 use Rattle.file_parts.specs.declared.stop.PartStop.{PartStop}
 use Rattle.file_parts.specs.declared.stop.PartStop.TheVariants as part_stops
 use Rattle.game_core.specs.TokenList.{bare}
-use Rattle.file_parts.specs.Reading.{left_at, right_at, text_at, opens}
+use Rattle.file_parts.specs.Reading.{opening_brace_at, closing_brace_at, text_at, opens}
 use Rattle.file_parts.specs.Parsing.{Parsed, ◌>>=◌, parse_each, parse_payoffs, IsPartStop}
-use Rattle.file_parts.proofs.TokenLaws.{left_is, right_is, text_is}
+use Rattle.file_parts.proofs.TokenLaws.{opening_brace_is, closing_brace_is, text_is}
 use Rattle.file_parts.proofs.NumberLaws.{payoffs_are}
 use Rattle.file_parts.proofs.ParseLemmas.{following, following-cons}
 use Rattle.file_parts.proofs.ReaderLemmas.{err_same}
@@ -85,14 +85,14 @@ outcome_named outcomes one players (suc n) f lt le e =
     part-read f outcomes n one [] (omega arith) (rw less at e)
 
 -- an outcome takes tokens
-pub outcome_shorter : (tokens inner following last rest : List Spanned) (name : List ℕ) (n : ℕ) (payoffs : List ℚ) → left_at (bare tokens) ≡ Some (bare inner) → text_at (bare inner) ≡ Some (name, bare following) → parse_payoffs Outcome n (bare following) ≡ Ok (payoffs, bare last) → right_at (bare last) ≡ Some (bare rest)
+pub outcome_shorter : (tokens inner following last rest : List Spanned) (name : List ℕ) (n : ℕ) (payoffs : List ℚ) → opening_brace_at (bare tokens) ≡ Some (bare inner) → text_at (bare inner) ≡ Some (name, bare following) → parse_payoffs Outcome n (bare following) ≡ Ok (payoffs, bare last) → closing_brace_at (bare last) ≡ Some (bare rest)
     → length rest < length tokens
 outcome_shorter tokens inner following last rest name n payoffs l t p r =
     let L = λ (s : Spanned). s.token in
-    let one = left_is (bare tokens) (bare inner) l in
+    let one = opening_brace_is (bare tokens) (bare inner) l in
     let two = text_is (bare inner) (name, bare following) t in
     let three = payoffs_are n (bare following) (payoffs, bare last) (sym (value_payoffs Outcome n (bare following)) ∙ ap value p) in
-    let four = right_is (bare last) (bare rest) r in
+    let four = closing_brace_is (bare last) (bare rest) r in
     let a : length (bare tokens) ≡ suc (length (bare inner)) = ap length one in
     let b : length (bare inner) ≡ suc (length (bare following)) = ap length two in
     let d : length (bare following) ≡ length three.front + length (bare last) = ap length three.is ∙ length-append three.front (bare last) in
@@ -106,7 +106,7 @@ pub length_push : {A : Type 0} (xs : List A) (x : A) (ys : List A) → ys ≡ xs
 length_push xs x ys e = rw e (length-append xs (x ∷ []))
 
 -- the parts of a body of outcomes
-pub outcome_body_by : (players profiles : ℕ) (tokens inner following after rest : List Token) (outcomes : List (List ℚ)) (count : ℕ) (numbers : List ℕ) (payoffs : List ℚ) → left_at tokens ≡ Some inner → parse_outcomes players (length inner) inner ≡ Ok (outcomes, following) → right_at following ≡ Some after
+pub outcome_body_by : (players profiles : ℕ) (tokens inner following after rest : List Token) (outcomes : List (List ℚ)) (count : ℕ) (numbers : List ℕ) (payoffs : List ℚ) → opening_brace_at tokens ≡ Some inner → parse_outcomes players (length inner) inner ≡ Ok (outcomes, following) → closing_brace_at following ≡ Some after
     → count ≡ length outcomes → parse_each (parse_number count) 0 profiles after ≡ Ok (numbers, rest) → payoffs ≡ flat_map (outcome_payoffs players outcomes) numbers → parse_outcome_body players profiles tokens ≡ Ok (payoffs, rest)
 unfolding parse_outcome_body
 outcome_body_by players profiles tokens inner following after rest outcomes count numbers payoffs l o r k n p =

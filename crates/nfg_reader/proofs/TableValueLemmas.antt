@@ -2,7 +2,7 @@
 use Rattle.std.proofs.Common.{◌≡◌, ℕ, zero, suc, ◌*◌, nat_le, List, [], ◌∷◌, length, Some, None, refl}
 use Rattle.std.specs.Prelude.{Ok, Err, codes, ◌<◌, if◌then◌else◌, map, Option}
 use Rattle.game_core.specs.declared.token.Token.{Token}
-use Rattle.file_parts.specs.Reading.{left_at, right_at, text_at, after_text, opens, ends, whole_at, count_at}
+use Rattle.file_parts.specs.Reading.{opening_brace_at, closing_brace_at, text_at, after_text, opens, ends, whole_at, count_at}
 use Rattle.file_parts.proofs.ValueLemmas.{names_at, payoffs_at, repeat_at, title_at}
 use Rattle.file_parts.specs.Parsing.{wanted, parse_each, parse_names, parse_payoffs, parse_title}
 use Rattle.file_parts.proofs.ReaderLemmas.{chain}
@@ -26,29 +26,29 @@ outcome_number_at outcomes tokens = do
 unfoldable pub counted_at : ℕ → List Token → Option (List (List (List ℕ)) × List Token)
 counted_at players tokens = do
   counts ← repeat_at (λ _. count_at) 0 players tokens
-  rest ← right_at counts.1
+  rest ← closing_brace_at counts.1
   Some (map counted_names counts.0, rest)
 
 -- lists of names, closed by a brace
 unfoldable pub named_at : ℕ → List Token → Option (List (List (List ℕ)) × List Token)
 named_at players tokens = do
   lists ← repeat_at (λ _. names_at) 0 players tokens
-  rest ← right_at lists.1
+  rest ← closing_brace_at lists.1
   Some (lists.0, rest)
 
 -- the strategies of this many players
 unfoldable pub strategies_at : ℕ → List Token → Option (List (List (List ℕ)) × List Token)
 strategies_at players tokens = do
-  inner ← left_at tokens
+  inner ← opening_brace_at tokens
   if opens inner then named_at players inner else counted_at players inner
 
 -- an outcome for this many players
 unfoldable pub outcome_at : ℕ → List Token → Option (List ℚ × List Token)
 outcome_at players tokens = do
-  inner ← left_at tokens
+  inner ← opening_brace_at tokens
   name ← text_at inner
   payoffs ← payoffs_at players name.1
-  rest ← right_at payoffs.1
+  rest ← closing_brace_at payoffs.1
   Some (payoffs.0, rest)
 
 -- as many outcomes as come, and at most so many
@@ -59,9 +59,9 @@ outcomes_at players (suc most) tokens = if opens tokens then (outcome_at players
 -- outcomes in braces, and the number of one for each of this many profiles
 unfoldable pub outcome_body_at : ℕ → ℕ → List Token → Option (List ℚ × List Token)
 outcome_body_at players profiles tokens = do
-  inner ← left_at tokens
+  inner ← opening_brace_at tokens
   outcomes ← outcomes_at players (length inner) inner
-  rest ← right_at outcomes.1
+  rest ← closing_brace_at outcomes.1
   numbers ← repeat_at (λ _. outcome_number_at (length outcomes.0)) 0 profiles rest
   Some (flat_map (outcome_payoffs players outcomes.0) numbers.0, numbers.1)
 
@@ -96,15 +96,15 @@ table_at tokens = do
 
 value_counted : (n : ℕ) (tokens : List Token) → value (parse_counted n tokens) ≡ counted_at n tokens
 unfolding parse_counted counted_at
-value_counted n tokens = value_chain (parse_each parse_count 0 n tokens) _ _ _ (value_each parse_count (λ _. count_at) (λ i tokens. value_wanted Strategies tokens (count_at tokens)) 0 n tokens) (λ counts. value_passed Strategies counts.1 (right_at counts.1) _ _ (λ rest. refl))
+value_counted n tokens = value_chain (parse_each parse_count 0 n tokens) _ _ _ (value_each parse_count (λ _. count_at) (λ i tokens. value_wanted Strategies tokens (count_at tokens)) 0 n tokens) (λ counts. value_passed Strategies counts.1 (closing_brace_at counts.1) _ _ (λ rest. refl))
 
 value_named : (n : ℕ) (tokens : List Token) → value (parse_named n tokens) ≡ named_at n tokens
 unfolding parse_named named_at
-value_named n tokens = value_chain (parse_each (λ _. parse_names Strategies) 0 n tokens) _ _ _ (value_each (λ _. parse_names Strategies) (λ _. names_at) (λ i tokens. value_names Strategies tokens) 0 n tokens) (λ lists. value_passed Strategies lists.1 (right_at lists.1) _ _ (λ rest. refl))
+value_named n tokens = value_chain (parse_each (λ _. parse_names Strategies) 0 n tokens) _ _ _ (value_each (λ _. parse_names Strategies) (λ _. names_at) (λ i tokens. value_names Strategies tokens) 0 n tokens) (λ lists. value_passed Strategies lists.1 (closing_brace_at lists.1) _ _ (λ rest. refl))
 
 pub value_strategies : (n : ℕ) (tokens : List Token) → value (parse_strategies n tokens) ≡ strategies_at n tokens
 unfolding parse_strategies strategies_at
-value_strategies n tokens = value_passed Strategies tokens (left_at tokens) _ _ (λ inner. value_if (opens inner) (parse_named n inner) (parse_counted n inner) (named_at n inner) (counted_at n inner) (value_named n inner) (value_counted n inner))
+value_strategies n tokens = value_passed Strategies tokens (opening_brace_at tokens) _ _ (λ inner. value_if (opens inner) (parse_named n inner) (parse_counted n inner) (named_at n inner) (counted_at n inner) (value_named n inner) (value_counted n inner))
 
 -- the front
 pub value_front : (tokens : List Token) → value (parse_front tokens) ≡ front_at tokens
@@ -117,9 +117,9 @@ value_front tokens =
 -- an outcome
 pub value_outcome : (n : ℕ) (tokens : List Token) → value (parse_outcome n tokens) ≡ outcome_at n tokens
 unfolding parse_outcome outcome_at
-value_outcome n tokens = value_passed Outcome tokens (left_at tokens) _ _ (λ inner.
+value_outcome n tokens = value_passed Outcome tokens (opening_brace_at tokens) _ _ (λ inner.
     value_chain (wanted Outcome inner (text_at inner)) _ _ _ (value_wanted Outcome inner (text_at inner)) (λ name.
-    value_chain (parse_payoffs Outcome n name.1) _ _ _ (value_payoffs Outcome n name.1) (λ payoffs. value_passed Outcome payoffs.1 (right_at payoffs.1) _ _ (λ rest. refl))))
+    value_chain (parse_payoffs Outcome n name.1) _ _ _ (value_payoffs Outcome n name.1) (λ payoffs. value_passed Outcome payoffs.1 (closing_brace_at payoffs.1) _ _ (λ rest. refl))))
 
 -- outcomes
 pub value_outcomes : (n most : ℕ) (tokens : List Token) → value (parse_outcomes n most tokens) ≡ outcomes_at n most tokens
@@ -132,9 +132,9 @@ value_number outcomes i tokens = value_chain (wanted PayoffCount tokens (whole_a
 
 value_outcome_body : (n count : ℕ) (tokens : List Token) → value (parse_outcome_body n count tokens) ≡ outcome_body_at n count tokens
 unfolding parse_outcome_body outcome_body_at
-value_outcome_body n count tokens = value_passed PayoffCount tokens (left_at tokens) _ _ (λ inner.
+value_outcome_body n count tokens = value_passed PayoffCount tokens (opening_brace_at tokens) _ _ (λ inner.
     value_chain (parse_outcomes n (length inner) inner) _ _ _ (value_outcomes n (length inner) inner) (λ outcomes.
-    value_passed Outcome outcomes.1 (right_at outcomes.1) _ _ (λ rest.
+    value_passed Outcome outcomes.1 (closing_brace_at outcomes.1) _ _ (λ rest.
     value_chain (parse_each (parse_number (length outcomes.0)) 0 count rest) _ _ _ (value_each (parse_number (length outcomes.0)) (λ _. outcome_number_at (length outcomes.0)) (value_number (length outcomes.0)) 0 count rest) (λ numbers. refl))))
 
 -- the body

@@ -1,14 +1,9 @@
--- The players' last own edges on the paths of a tree, while they are computed.
+-- The last own edges before the nodes of a tree.
 use Rattle.std.specs.Prelude.{ℕ, ◌<◌, ◌≡◌, List, length, slice_index_or, Option, None}
 use Rattle.game_theory.specs.Trees.{Tree}
 use Rattle.game_theory.specs.Recall.{own_history}
 use Rattle.sequence_forms.specs.Sequences.{last_edge}
 use Rattle.game_theory.specs.OwnSets.{Chooses, NobodyChooses}
-
--- for each player the last own edge on the path to node k
-pub record AreLast (t : Tree) (k : ℕ) (last : List (Option (ℕ × ℕ))) : Type 0 where
-  pub one_for_each : length last ≡ t.players
-  pub are_last : (i : ℕ) → i < t.players → slice_index_or last i None ≡ last_edge (own_history t i k)
 
 -- the last own edge before node k of the player who chooses there, and none where nobody does
 pub record IsEdgeBefore (t : Tree) (k : ℕ) (edge : Option (ℕ × ℕ)) : Type 0 where

@@ -155,7 +155,7 @@ pub fn find_recall(alloc: Global, tree: &Tree) -> Result<Recall, RecallStop>
     Ok(Recall::new(before))
 }
 
-/// A tree has one recall, or one player who forgets first.
+/// A tree has one answer at most: its recall, or the player who forgets first.
 pub fn recalls_are_single()
     ensures { (t : GameTree) → IsGameTree t → IsSingle (recall_of t) }
 {

@@ -1,5 +1,5 @@
 -- The order, equality and sign that code answers, in the words of ◌<ℚ◌ and ◌≡◌.
-use Rattle.std.proofs.Common.{◌≡◌, ◌<◌, ◌↔◌, ℤ, pos, negsuc, ◌*ℤ◌, ◌<ℤ◌, arith, sym, ap₂, subst, Ordering, Less, Equal, Greater}
+use Rattle.std.proofs.Common.{◌≡◌, ◌↔◌, ℤ, pos, negsuc, ◌*ℤ◌, ◌<ℤ◌, arith, sym, ap₂, subst, Ordering, Less, Equal, Greater}
 use Rattle.std.specs.Int.{int_signum}
 use Rattle.std.specs.Ordering.{MatchOrdering}
 use Rattle.std.specs.Cmp.{int_cmp_is, int_ranks}

@@ -1,6 +1,5 @@
 pub mod Cells
 pub mod Counts
-pub mod Kept
 pub mod Limits
 pub mod ReducedForm
 pub mod Stops

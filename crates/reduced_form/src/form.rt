@@ -11,11 +11,11 @@ ghost use Rattle.reduced_form.specs.Stops.{reduced_form_of};
 
 use crate::cells::cells;
 use crate::limits::{check_choices, count_all};
-use crate::names::{copied_names, names_of_all};
+use crate::names::names_of_all;
 use crate::stop::ReduceStop;
 use crate::strategies::Strategies;
 use frac128::{Frac, Memory};
-use game_core::{Table, Tree, copied, trees_are_game_trees};
+use game_core::{Table, Tree, copied, copied_names, trees_are_game_trees};
 use std::alloc::Global;
 use std::marker::Model;
 use strategy_lists::{Decisions, set_places};
@@ -119,7 +119,7 @@ pub fn reduce(alloc: Global, tree: &Tree) -> Result<Reduced, ReduceStop>
     Ok(Reduced { choices, table })
 }
 
-/// A tree has one reduced form within the limits, or one reason why it has none.
+/// A tree has one answer at most: its reduced form within the limits, or why it has none.
 pub fn forms_are_single()
     ensures { (tree : GameTree) → IsSingle (reduced_form_of tree) }
 {}

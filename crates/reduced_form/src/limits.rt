@@ -1,5 +1,5 @@
 // The sizes of a reduced form, counted before it is built.
-ghost use Rattle.std.specs.Prelude.{◌≡◌, ◌<◌, ◌≤◌, ◌*◌, length, Err, IfOk, IfErr, OnOk};
+ghost use Rattle.std.specs.Prelude.{◌≡◌, ◌≤◌, ◌*◌, length, Err, IfOk, IfErr, OnOk};
 ghost use Rattle.answers.specs.Answers.{Gives};
 ghost use Rattle.game_theory.specs.Profiles.{profile_count};
 ghost use Rattle.game_core.specs.Table.{most_payoffs};
@@ -9,7 +9,6 @@ ghost use Rattle.reduced_form.specs.Counts.{AreCounted, counts_in};
 ghost use Rattle.reduced_form.specs.Limits.{choices_of, most_choices};
 ghost use Rattle.game_core.specs.Limits.{first_above};
 ghost use Rattle.game_core.specs.declared.too_large.What.TheVariants as what;
-ghost use Rattle.game_theory.specs.OwnSets.{own_sets};
 
 use crate::stop::ReduceStop;
 use game_core::{MOST_PAYOFFS, TooLarge, Tree, What, trees_are_game_trees};
@@ -59,19 +58,6 @@ pub fn count_all(alloc: Global, decisions: &Decisions) -> Result<Vec<usize>, Red
     Ok(counts)
 }
 
-// How many own sets a player has.
-fn own_set_count(tree: &Tree, player: u32) -> usize
-    requires { player < length tree.now.players }
-    ensures { result ≡ length (own_sets (game_of_tree tree.now) player) }
-{
-    let sets = tree.sets().len();
-    let mut count = 0;
-    while count < sets && tree.own_sets(player, count as u32).is_some() {
-        count += 1;
-    }
-    count
-}
-
 /// That the form has no more choices than it may, where the players have so many strategies.
 pub fn check_choices(tree: &Tree, counts: &[usize]) -> Result<(), ReduceStop>
     requires counted { AreCounted (game_of_tree tree.now) counts.now }
@@ -83,7 +69,7 @@ pub fn check_choices(tree: &Tree, counts: &[usize]) -> Result<(), ReduceStop>
     trees_are_game_trees();
     let mut choices = 0;
     for player in 0..tree.players().len() {
-        choices += counts[player] as u64 * own_set_count(tree, player as u32) as u64;
+        choices += counts[player] as u64 * tree.sets_of(player as u32).len() as u64;
         if choices > MOST_CHOICES {
             return Err(too_many_choices());
         }

@@ -5,7 +5,7 @@ ghost use Rattle.reduced_form.specs.ReducedForm.{action_text, strategy_name};
 
 use crate::strategies::Strategies;
 use frac128::Memory;
-use game_core::{Name, copied};
+use game_core::Name;
 use std::alloc::Global;
 
 // Adds an action to a name.
@@ -67,15 +67,4 @@ pub fn names_of_all(alloc: Global, strategies: &Strategies) -> Result<Vec<Vec<Na
         names.push(names_of_one(alloc, list)?)?;
     }
     Ok(names)
-}
-
-/// Names of their own with the same bytes.
-pub fn copied_names(alloc: Global, names: &[Name]) -> Result<Vec<Name>, Memory>
-    ensures { IfOk result (λ copies. copies.items ≡ names.now) }
-{
-    let mut copies = Vec::with_capacity(alloc, names.len())?;
-    for name in names {
-        copies.push(copied(alloc, name)?)?;
-    }
-    Ok(copies)
 }

@@ -31,9 +31,9 @@ status_of (refusal.Text fault) = 1
 status_of (refusal.Nfg fault) = 1
 status_of (refusal.Efg fault) = 1
 status_of (refusal.NotTwoPlayers count) = 1
-status_of (refusal.Forgets player set first_node second_node) = 1
-status_of (refusal.NotConstant first second first_sum second_sum) = 1
-status_of (refusal.TooLarge counted count limit) = 1
+status_of (refusal.Forgets f) = 1
+status_of (refusal.NotConstant sums) = 1
+status_of (refusal.TooLarge passed) = 1
 status_of (refusal.Range place step) = 1
 status_of (refusal.SubgameRange node place step) = 1
 status_of (refusal.BadLine line) = 1
@@ -151,15 +151,15 @@ refusal_text (refusal.Nfg fault) =
 refusal_text (refusal.Efg fault) =
     codes "efg fault at " ++ decimal fault.at ++ codes ": " ++ efg_kind_text fault.kind
 refusal_text (refusal.NotTwoPlayers count) = decimal count ++ codes " players, not two"
-refusal_text (refusal.Forgets player set first_node second_node) =
-    codes "player " ++ decimal (player + 1) ++ codes " forgets at set " ++ decimal set
-    ++ codes ", nodes " ++ decimal (first_node + 1) ++ codes " and " ++ decimal (second_node + 1)
-refusal_text (refusal.NotConstant first second first_sum second_sum) =
-    codes "not constant sum: " ++ decimal (first + 1) ++ codes " has " ++ number_text first_sum
-    ++ codes ", " ++ decimal (second + 1) ++ codes " has " ++ number_text second_sum
-refusal_text (refusal.TooLarge counted count limit) =
-    codes "too large: " ++ decimal count ++ codes " " ++ what_text counted
-    ++ codes ", limit " ++ decimal limit
+refusal_text (refusal.Forgets f) =
+    codes "player " ++ decimal (f.player + 1) ++ codes " forgets at set " ++ decimal f.set
+    ++ codes ", nodes " ++ decimal (f.first_node + 1) ++ codes " and " ++ decimal (f.second_node + 1)
+refusal_text (refusal.NotConstant sums) =
+    codes "not constant sum: " ++ decimal (sums.first + 1) ++ codes " has " ++ number_text sums.first_sum
+    ++ codes ", " ++ decimal (sums.second + 1) ++ codes " has " ++ number_text sums.second_sum
+refusal_text (refusal.TooLarge passed) =
+    codes "too large: " ++ decimal passed.count ++ codes " " ++ what_text passed.what
+    ++ codes ", limit " ++ decimal passed.limit
 refusal_text (refusal.Range place step) =
     codes "range in " ++ site_text place ++ codes ": " ++ op_text step.op
     ++ codes " " ++ number_text step.left ++ codes " " ++ number_text step.right

@@ -30,16 +30,11 @@ use Rattle.convert_tables.specs.declared.stops.ConvertStop.{ConvertStop}
 use Rattle.convert_tables.specs.declared.stops.ConvertStop.TheVariants as convert_stop
 use Rattle.ne_checker.specs.declared.stops.CheckStop.{CheckStop}
 use Rattle.ne_checker.specs.declared.stops.CheckStop.TheVariants as check_stop
-use Rattle.reduced_form.specs.declared.kept_stop.KeptStop.{KeptStop}
-use Rattle.reduced_form.specs.declared.kept_stop.KeptStop.TheVariants as kept_stop
-use Rattle.game_core.specs.declared.too_large.TooLarge.{TooLarge}
+use Rattle.kept_strategies.specs.declared.kept_stop.KeptStop.{KeptStop}
+use Rattle.kept_strategies.specs.declared.kept_stop.KeptStop.TheVariants as kept_stop
 use Rattle.refusals.specs.declared.refusal.Site.TheVariants as site
 use Rattle.refusals.specs.declared.refusal.Refusal.{Refusal}
 use Rattle.refusals.specs.declared.refusal.Refusal.TheVariants as refusal
-
--- the refusal that tells of a limit that is passed
-abbrev pub limit_refusal : TooLarge → Refusal
-limit_refusal limit = refusal.TooLarge limit.what limit.count limit.limit
 
 -- the refusal that tells why a text is not read
 abbrev pub text_refusal : TextStop → Refusal
@@ -49,29 +44,29 @@ text_refusal text_stop.Memory = refusal.Memory
 -- the refusal that tells why a table's file is not read
 abbrev pub nfg_refusal : NfgStop → Refusal
 nfg_refusal (nfg_stop.Fault fault) = refusal.Nfg fault
-nfg_refusal (nfg_stop.TooLarge limit) = limit_refusal limit
+nfg_refusal (nfg_stop.TooLarge limit) = refusal.TooLarge limit
 nfg_refusal nfg_stop.Memory = refusal.Memory
 
 -- the refusal that tells why a tree's file is not read
 abbrev pub efg_refusal : EfgStop → Refusal
 efg_refusal (efg_stop.Fault fault) = refusal.Efg fault
-efg_refusal (efg_stop.TooLarge limit) = limit_refusal limit
+efg_refusal (efg_stop.TooLarge limit) = refusal.TooLarge limit
 efg_refusal efg_stop.Memory = refusal.Memory
 
 -- the refusal that tells why there is no reduced form
 abbrev pub form_refusal : ReduceStop → Refusal
-form_refusal (reduce_stop.TooLarge limit) = limit_refusal limit
+form_refusal (reduce_stop.TooLarge limit) = refusal.TooLarge limit
 form_refusal (reduce_stop.Range profile player step) = refusal.Range (site.Cell profile player) step
 form_refusal reduce_stop.Memory = refusal.Memory
 
 -- the refusal that tells why lines are not listed
 abbrev pub list_refusal : ListStop → Refusal
-list_refusal (list_stop.TooLarge limit) = limit_refusal limit
+list_refusal (list_stop.TooLarge limit) = refusal.TooLarge limit
 list_refusal list_stop.Memory = refusal.Memory
 
 -- the refusal that tells why the choices that pass are not listed
 abbrev pub choice_refusal : ChoiceStop → Refusal
-choice_refusal (choice_stop.TooLarge limit) = limit_refusal limit
+choice_refusal (choice_stop.TooLarge limit) = refusal.TooLarge limit
 choice_refusal (choice_stop.Range choice node player step) =
     refusal.Range (site.Choice choice node player) step
 choice_refusal choice_stop.Memory = refusal.Memory
@@ -79,7 +74,7 @@ choice_refusal choice_stop.Memory = refusal.Memory
 -- ---- tools for two players
 -- the refusal that tells why recall is not found
 abbrev pub recall_refusal : RecallStop → Refusal
-recall_refusal (recall_stop.Forgets f) = refusal.Forgets f.player f.set f.first_node f.second_node
+recall_refusal (recall_stop.Forgets f) = refusal.Forgets f
 recall_refusal recall_stop.Memory = refusal.Memory
 
 -- the refusal that tells why there is no sequence form
@@ -90,10 +85,9 @@ sequence_refusal sequence_stop.Memory = refusal.Memory
 
 -- the refusal that tells why there is no linear program
 abbrev pub program_refusal : LpStop → Refusal
-program_refusal (lp_stop.TooLarge limit) = limit_refusal limit
+program_refusal (lp_stop.TooLarge limit) = refusal.TooLarge limit
 program_refusal (lp_stop.SumRange place step) = refusal.Range (site.Sum place) step
-program_refusal (lp_stop.NotConstant n) =
-    refusal.NotConstant n.first n.second n.first_sum n.second_sum
+program_refusal (lp_stop.NotConstant sums) = refusal.NotConstant sums
 program_refusal (lp_stop.GainRange row column step) = refusal.Range (site.Gain row column) step
 program_refusal (lp_stop.Start row step) = refusal.Range (site.Start row) step
 program_refusal lp_stop.Memory = refusal.Memory
@@ -109,7 +103,7 @@ plan_refusal plan_stop.Memory = refusal.Memory
 
 -- the refusal that tells why there is no complementarity problem
 abbrev pub problem_refusal : LcpStop → Refusal
-problem_refusal (lcp_stop.TooLarge limit) = limit_refusal limit
+problem_refusal (lcp_stop.TooLarge limit) = refusal.TooLarge limit
 problem_refusal (lcp_stop.Range player row column step) =
     refusal.Range (site.Cost player row column) step
 problem_refusal (lcp_stop.Start row step) = refusal.Range (site.Start row) step
@@ -124,7 +118,7 @@ behaviour_refusal behaviour_stop.Memory = refusal.Memory
 -- the refusal that tells why extreme equilibria are not listed
 abbrev pub mixed_refusal : MixedStop → Refusal
 mixed_refusal (mixed_stop.NotTwoPlayers count) = refusal.NotTwoPlayers count
-mixed_refusal (mixed_stop.TooLarge limit) = limit_refusal limit
+mixed_refusal (mixed_stop.TooLarge limit) = refusal.TooLarge limit
 mixed_refusal (mixed_stop.Shift player profile step) =
     refusal.Range (site.Shift player profile) step
 mixed_refusal (mixed_stop.Start polytope row step) =
@@ -138,18 +132,18 @@ mixed_refusal mixed_stop.Memory = refusal.Memory
 abbrev pub convert_refusal : ConvertStop → Refusal
 convert_refusal (convert_stop.NoSuchPlayer number) = refusal.NoSuchPlayer number
 convert_refusal (convert_stop.SamePlayer number) = refusal.SamePlayer number
-convert_refusal (convert_stop.TooLarge limit) = limit_refusal limit
+convert_refusal (convert_stop.TooLarge limit) = refusal.TooLarge limit
 convert_refusal convert_stop.Memory = refusal.Memory
 
 -- the refusal that tells why lines are not checked
 abbrev pub check_refusal : CheckStop → Refusal
 check_refusal (check_stop.BadLine line) = refusal.BadLine line
 check_refusal (check_stop.Range line step) = refusal.Range (site.Line line) step
-check_refusal (check_stop.TooLarge limit) = limit_refusal limit
+check_refusal (check_stop.TooLarge limit) = refusal.TooLarge limit
 check_refusal check_stop.Memory = refusal.Memory
 
 -- the refusal that tells why dominated strategies are not looked for
 abbrev pub kept_refusal : KeptStop → Refusal
 kept_refusal (kept_stop.NotTwoPlayers count) = refusal.NotTwoPlayers count
-kept_refusal (kept_stop.TooLarge limit) = limit_refusal limit
+kept_refusal (kept_stop.TooLarge limit) = refusal.TooLarge limit
 kept_refusal kept_stop.Memory = refusal.Memory

@@ -15,8 +15,10 @@ use game_core::{TooLarge, What};
 use game_text::{TextFault, TextKind};
 use ne_printer::fraction_text;
 use nfg_reader::{NfgFault, NfgKind};
+use perfect_recall::Forgets;
 use std::alloc::Global;
 use tree_grammar::EfgKind;
+use zero_sum_lp::NotConstant;
 
 // The words for a kind of fault in a text.
 fn text_kind_text(kind: TextKind) -> &'static str
@@ -141,7 +143,7 @@ pub fn efg_line(alloc: Global, fault: EfgFault) -> Result<String, Memory>
 pub fn limit_line(alloc: Global, passed: TooLarge) -> Result<String, Memory>
     ensures { IfOk result (λ line.
         string_bytes line
-        ≡ refusal_line (refusal.TooLarge passed.what passed.count passed.limit)) }
+        ≡ refusal_line (refusal.TooLarge passed)) }
 {
     let what = what_text(passed.what);
     let count = passed.count;
@@ -157,39 +159,26 @@ pub fn players_line(alloc: Global, count: u32) -> Result<String, Memory>
 }
 
 /// The line of a player who forgets, with the set and its first two nodes that differ.
-pub fn forgets_line(
-    alloc: Global,
-    player: u32,
-    set: u64,
-    first_node: u32,
-    second_node: u32,
-) -> Result<String, Memory>
-    ensures { IfOk result (λ line.
-        string_bytes line ≡ refusal_line (refusal.Forgets player set first_node second_node)) }
+pub fn forgets_line(alloc: Global, forgets: Forgets) -> Result<String, Memory>
+    ensures { IfOk result (λ line. string_bytes line ≡ refusal_line (refusal.Forgets forgets)) }
 {
-    let number = player as u64 + 1;
-    let first = first_node as u64 + 1;
-    let second = second_node as u64 + 1;
+    let number = forgets.player as u64 + 1;
+    let set = forgets.set;
+    let first = forgets.first_node as u64 + 1;
+    let second = forgets.second_node as u64 + 1;
     Ok(format!(in alloc;
         "gambit: player {number} forgets at set {set}, nodes {first} and {second}\n"
     )?)
 }
 
 /// The line of a game whose payoffs have no constant sum, with two places and their sums.
-pub fn sums_line(
-    alloc: Global,
-    first: u32,
-    second: u32,
-    first_sum: Frac,
-    second_sum: Frac,
-) -> Result<String, Memory>
-    ensures { IfOk result (λ line.
-        string_bytes line ≡ refusal_line (refusal.NotConstant first second first_sum second_sum)) }
+pub fn sums_line(alloc: Global, sums: NotConstant) -> Result<String, Memory>
+    ensures { IfOk result (λ line. string_bytes line ≡ refusal_line (refusal.NotConstant sums)) }
 {
-    let one = first as u64 + 1;
-    let other = second as u64 + 1;
-    let one_sum = fraction_text(alloc, first_sum)?;
-    let other_sum = fraction_text(alloc, second_sum)?;
+    let one = sums.first as u64 + 1;
+    let other = sums.second as u64 + 1;
+    let one_sum = fraction_text(alloc, sums.first_sum)?;
+    let other_sum = fraction_text(alloc, sums.second_sum)?;
     Ok(format!(in alloc;
         "gambit: not constant sum: {one} has {one_sum}, {other} has {other_sum}\n"
     )?)

@@ -6,13 +6,15 @@ use crate::lines::{
 use answers::Memory;
 use basis_enum::Basis;
 use efg_reader::EfgFault;
-use frac128::{Frac, Unfit};
-use game_core::{TooLarge, What};
+use frac128::Unfit;
+use game_core::TooLarge;
 use game_text::TextFault;
 use nfg_reader::NfgFault;
+use perfect_recall::Forgets;
 use std::alloc::Global;
 use thiserror::Error;
 use words::Usage;
+use zero_sum_lp::NotConstant;
 
 /// Where a step of the arithmetic stands. Profiles, choices, nodes, players, sequences, rows, polytopes and
 /// levels are numbered from 0, variables and the steps of a path from 1. Sequence 0 is the empty one.
@@ -158,63 +160,34 @@ pub enum Refusal {
     Efg(EfgFault),
     /// The game has another number of players than two.
     #[error("not two players")]
-    NotTwoPlayers {
-        count: u32,
-    },
+    NotTwoPlayers { count: u32 },
     /// A player forgets: the first one, at that player's first such set, which is numbered as a
     /// file numbers it. Nodes and players are numbered from 0.
     #[error("a player forgets")]
-    Forgets {
-        player: u32,
-        set: u64,
-        first_node: u32,
-        second_node: u32,
-    },
+    Forgets(Forgets),
     /// The payoffs do not sum to the same number at two leaves, which are nodes of a tree or
     /// profiles of a table, from 0.
     #[error("not constant sum")]
-    NotConstant {
-        first: u32,
-        second: u32,
-        first_sum: Frac,
-        second_sum: Frac,
-    },
+    NotConstant(NotConstant),
     /// A count passed its limit.
     #[error("too large")]
-    TooLarge {
-        what: What,
-        count: u64,
-        limit: u64,
-    },
+    TooLarge(TooLarge),
     /// A step of the arithmetic does not fit 128 bits.
     #[error("range")]
-    Range {
-        site: Site,
-        unfit: Unfit,
-    },
+    Range { site: Site, unfit: Unfit },
     /// A step of the arithmetic in the subgame that begins at a node does not fit 128 bits. Nodes
     /// count from 0; rows, columns and variables of the site are those of the cut at the node.
     #[error("range in a subgame")]
-    SubgameRange {
-        node: u32,
-        site: Site,
-        unfit: Unfit,
-    },
+    SubgameRange { node: u32, site: Site, unfit: Unfit },
     /// A line is not one of a profile of the game. Lines count from 1.
     #[error("no profile")]
-    BadLine {
-        line: u64,
-    },
+    BadLine { line: u64 },
     /// The game has no player with this number, from 1.
     #[error("no such player")]
-    NoSuchPlayer {
-        number: u32,
-    },
+    NoSuchPlayer { number: u32 },
     /// The row player, with this number from 1, is the column player too.
     #[error("one player twice")]
-    SamePlayer {
-        number: u32,
-    },
+    SamePlayer { number: u32 },
     /// Memory ran out.
     #[error("out of memory")]
     Memory,
@@ -238,9 +211,9 @@ impl Refusal {
             | Refusal::Nfg(_)
             | Refusal::Efg(_)
             | Refusal::NotTwoPlayers { .. }
-            | Refusal::Forgets { .. }
-            | Refusal::NotConstant { .. }
-            | Refusal::TooLarge { .. }
+            | Refusal::Forgets(_)
+            | Refusal::NotConstant(_)
+            | Refusal::TooLarge(_)
             | Refusal::Range { .. }
             | Refusal::SubgameRange { .. }
             | Refusal::BadLine { .. }
@@ -269,9 +242,9 @@ impl Refusal {
             | Refusal::Nfg(_)
             | Refusal::Efg(_)
             | Refusal::NotTwoPlayers { .. }
-            | Refusal::Forgets { .. }
-            | Refusal::NotConstant { .. }
-            | Refusal::TooLarge { .. }
+            | Refusal::Forgets(_)
+            | Refusal::NotConstant(_)
+            | Refusal::TooLarge(_)
             | Refusal::Range { .. }
             | Refusal::SubgameRange { .. }
             | Refusal::BadLine { .. }
@@ -290,26 +263,9 @@ impl Refusal {
             Refusal::Nfg(fault) => nfg_line(alloc, *fault),
             Refusal::Efg(fault) => efg_line(alloc, *fault),
             Refusal::NotTwoPlayers { count } => players_line(alloc, *count),
-            Refusal::Forgets {
-                player,
-                set,
-                first_node,
-                second_node,
-            } => forgets_line(alloc, *player, *set, *first_node, *second_node),
-            Refusal::NotConstant {
-                first,
-                second,
-                first_sum,
-                second_sum,
-            } => sums_line(alloc, *first, *second, *first_sum, *second_sum),
-            Refusal::TooLarge { what, count, limit } => {
-                let passed = TooLarge {
-                    what: *what,
-                    count: *count,
-                    limit: *limit,
-                };
-                limit_line(alloc, passed)
-            }
+            Refusal::Forgets(forgets) => forgets_line(alloc, *forgets),
+            Refusal::NotConstant(sums) => sums_line(alloc, *sums),
+            Refusal::TooLarge(passed) => limit_line(alloc, *passed),
             Refusal::Range { site, unfit } => range_line(alloc, site, *unfit),
             Refusal::SubgameRange { node, site, unfit } => {
                 subgame_line(alloc, *node, site, *unfit)

@@ -9,12 +9,13 @@ use enumpure::ListStop;
 use enumpure_trees::ChoiceStop;
 use game_core::TooLarge;
 use game_text::TextStop;
+use kept_strategies::KeptStop;
 use lemke_pivot::LcpStop;
 use lex_tableau::UnfitPivot;
 use ne_checker::CheckStop;
 use nfg_reader::NfgStop;
 use perfect_recall::RecallStop;
-use reduced_form::{KeptStop, ReduceStop};
+use reduced_form::ReduceStop;
 use sequence_form::SeqStop;
 use std::alloc::AllocError;
 use zero_sum_lp::{LpStop, PlanStop};
@@ -43,16 +44,12 @@ impl From<AllocError> for Refusal {
 
 impl From<TooLarge> for Refusal {
     ghost use Rattle.std.specs.Prelude.{◌≡◌};
-    ghost use Rattle.refusals.specs.Told.{limit_refusal};
+    ghost use Rattle.refusals.specs.declared.refusal.Refusal.TheVariants as refusal;
 
-    ghost from_gives = { λ limit r. r ≡ limit_refusal limit };
+    ghost from_gives = { λ limit r. r ≡ refusal.TooLarge limit };
 
     fn from(passed: TooLarge) -> Refusal {
-        Refusal::TooLarge {
-            what: passed.what,
-            count: passed.count,
-            limit: passed.limit,
-        }
+        Refusal::TooLarge(passed)
     }
 }
 
@@ -79,7 +76,7 @@ impl From<NfgStop> for Refusal {
     fn from(stop: NfgStop) -> Refusal {
         match stop {
             NfgStop::Fault(fault) => Refusal::Nfg(fault),
-            NfgStop::TooLarge(passed) => Refusal::from(passed),
+            NfgStop::TooLarge(passed) => Refusal::TooLarge(passed),
             NfgStop::Memory => Refusal::Memory,
         }
     }
@@ -94,7 +91,7 @@ impl From<EfgStop> for Refusal {
     fn from(stop: EfgStop) -> Refusal {
         match stop {
             EfgStop::Fault(fault) => Refusal::Efg(fault),
-            EfgStop::TooLarge(passed) => Refusal::from(passed),
+            EfgStop::TooLarge(passed) => Refusal::TooLarge(passed),
             EfgStop::Memory => Refusal::Memory,
         }
     }
@@ -108,7 +105,7 @@ impl From<ReduceStop> for Refusal {
 
     fn from(stop: ReduceStop) -> Refusal {
         match stop {
-            ReduceStop::TooLarge(passed) => Refusal::from(passed),
+            ReduceStop::TooLarge(passed) => Refusal::TooLarge(passed),
             ReduceStop::Range {
                 profile,
                 player,
@@ -130,7 +127,7 @@ impl From<ListStop> for Refusal {
 
     fn from(stop: ListStop) -> Refusal {
         match stop {
-            ListStop::TooLarge(passed) => Refusal::from(passed),
+            ListStop::TooLarge(passed) => Refusal::TooLarge(passed),
             ListStop::Memory => Refusal::Memory,
         }
     }
@@ -144,7 +141,7 @@ impl From<ChoiceStop> for Refusal {
 
     fn from(stop: ChoiceStop) -> Refusal {
         match stop {
-            ChoiceStop::TooLarge(passed) => Refusal::from(passed),
+            ChoiceStop::TooLarge(passed) => Refusal::TooLarge(passed),
             ChoiceStop::Range {
                 choice,
                 node,
@@ -171,12 +168,7 @@ impl From<RecallStop> for Refusal {
 
     fn from(stop: RecallStop) -> Refusal {
         match stop {
-            RecallStop::Forgets(forgets) => Refusal::Forgets {
-                player: forgets.player,
-                set: forgets.set,
-                first_node: forgets.first_node,
-                second_node: forgets.second_node,
-            },
+            RecallStop::Forgets(forgets) => Refusal::Forgets(forgets),
             RecallStop::Memory => Refusal::Memory,
         }
     }
@@ -208,17 +200,12 @@ impl From<LpStop> for Refusal {
 
     fn from(stop: LpStop) -> Refusal {
         match stop {
-            LpStop::TooLarge(passed) => Refusal::from(passed),
+            LpStop::TooLarge(passed) => Refusal::TooLarge(passed),
             LpStop::SumRange { place, unfit } => Refusal::Range {
                 site: Site::Sum { place },
                 unfit,
             },
-            LpStop::NotConstant(sums) => Refusal::NotConstant {
-                first: sums.first,
-                second: sums.second,
-                first_sum: sums.first_sum,
-                second_sum: sums.second_sum,
-            },
+            LpStop::NotConstant(sums) => Refusal::NotConstant(sums),
             LpStop::GainRange { row, column, unfit } => Refusal::Range {
                 site: Site::Gain { row, column },
                 unfit,
@@ -274,7 +261,7 @@ impl From<LcpStop> for Refusal {
 
     fn from(stop: LcpStop) -> Refusal {
         match stop {
-            LcpStop::TooLarge(passed) => Refusal::from(passed),
+            LcpStop::TooLarge(passed) => Refusal::TooLarge(passed),
             LcpStop::Range {
                 player,
                 row,
@@ -323,7 +310,7 @@ impl From<MixedStop> for Refusal {
     fn from(stop: MixedStop) -> Refusal {
         match stop {
             MixedStop::NotTwoPlayers { count } => Refusal::NotTwoPlayers { count },
-            MixedStop::TooLarge(passed) => Refusal::from(passed),
+            MixedStop::TooLarge(passed) => Refusal::TooLarge(passed),
             MixedStop::Shift {
                 player,
                 profile,
@@ -374,7 +361,7 @@ impl From<ConvertStop> for Refusal {
         match stop {
             ConvertStop::NoSuchPlayer { number } => Refusal::NoSuchPlayer { number },
             ConvertStop::SamePlayer { number } => Refusal::SamePlayer { number },
-            ConvertStop::TooLarge(passed) => Refusal::from(passed),
+            ConvertStop::TooLarge(passed) => Refusal::TooLarge(passed),
             ConvertStop::Memory => Refusal::Memory,
         }
     }
@@ -393,7 +380,7 @@ impl From<CheckStop> for Refusal {
                 site: Site::Line { line },
                 unfit,
             },
-            CheckStop::TooLarge(passed) => Refusal::from(passed),
+            CheckStop::TooLarge(passed) => Refusal::TooLarge(passed),
             CheckStop::Memory => Refusal::Memory,
         }
     }
@@ -408,7 +395,7 @@ impl From<KeptStop> for Refusal {
     fn from(stop: KeptStop) -> Refusal {
         match stop {
             KeptStop::NotTwoPlayers { count } => Refusal::NotTwoPlayers { count },
-            KeptStop::TooLarge(passed) => Refusal::from(passed),
+            KeptStop::TooLarge(passed) => Refusal::TooLarge(passed),
             KeptStop::Memory => Refusal::Memory,
         }
     }

@@ -2,7 +2,7 @@
 // it.
 ghost use Rattle.reply_polytope.specs.Stops.{PolytopesAreSingle};
 
-/// A game has one pair of systems, or one reason why it has none.
+/// A game has one answer at most: a pair of systems, or why it has none.
 pub fn polytopes_are_single()
     ensures { PolytopesAreSingle }
 {}

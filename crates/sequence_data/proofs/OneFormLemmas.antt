@@ -1,4 +1,4 @@
--- There is one form over two sides and leaves.
+-- There is at most one form over two sides and leaves.
 use Rattle.std.proofs.Common.{◌≡◌, List, map, sym, ◌∙◌, subst}
 use Rattle.answers.specs.Answers.{IsSingle, such_that}
 use Rattle.answers.proofs.AnswerLemmas.{bind-single, such_that-single}

@@ -1,4 +1,4 @@
--- The cells of leaves are one list; the extremes of leaves, one leaf at a time.
+-- Leaves have at most one list of cells; the extremes of leaves, one leaf at a time.
 use Rattle.std.proofs.Common.{ℕ, zero, suc, ◌+◌, ◌<◌, ◌≡◌, inl, inr, Some, List, [], ◌∷◌, length, map, take, get_or, slice_get, All, refl, sym, ap, ap₂, ◌∙◌, subst, arith}
 use Rattle.std.specs.Prelude.{Any}
 use Rattle.std.proofs.Math.Seq.{take-length}

@@ -22,6 +22,6 @@ module _ (place : ℕ) (xs ys : List Step) where
   fit_at-following (Ok _) fit h = All-append StepFits xs ys fit h
   fit_at-following (Err stop) fit (step, h, is) = (step, first_unfit-following xs ys step fit h, is)
 
--- the steps of leaves have one answer
+-- the steps of leaves have at most one answer
 pub gathering_in-single : (leaves : List Leaf) → IsSingle (gathering_in leaves)
 gathering_in-single leaves = refused_by-single (λ stop. stops.Range stop.0.1.place stop.1) _ (all_fit-single (leaf_steps leaves) (enumerate_from 0 leaves))

@@ -3,3 +3,5 @@ pub mod Gathered
 pub mod Steps
 pub mod Data
 pub mod Matrices
+pub mod PlanPairs
+pub mod Sizes

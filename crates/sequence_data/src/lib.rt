@@ -1,15 +1,17 @@
 //! A sequence form as data: both players' sides, the leaves of a game, the cells that sum them up,
-//! and the extreme payoffs.
+//! and the extreme payoffs; and both players' plans.
 //!
 //! Callers may rely on: `SeqForm::of_leaves` gives the cells that are the sums of the leaves, or
 //! the first step that does not fit; `gains_are_not_negative` and `costs_are_not_negative`; `set_at`
-//! and `set_entry` give a set's row and its entries, and `dense` the matrix of the numbers of cells.
+//! and `set_entry` give a set's row and its entries, and `dense` the matrix of the numbers of cells;
+//! `rows` and `program_size` count what a form's problems have.
 //! Definitions: `specs::Data` says what each form keeps and which sequence form it stands for,
 //! `Cells` what the cells are, `Steps` whether the steps of leaves fit, `Matrices` numbers of cells
-//! as a matrix; `sequence_forms` has the rows of plans.
+//! as a matrix, `Sizes` the sizes of a form and of its problems, `PlanPairs` two plans;
+//! `sequence_forms` has the rows of plans.
 //! Private words: `specs::Gathered`, cells while they are summed up.
 //! Lemmas for callers: `proofs::GainLemmas` on gains and costs, `CellSumLemmas` and `OrderLemmas`
-//! on cells, `StepStageLemmas` on steps, `OneFormLemmas`, that there is one form over leaves.
+//! on cells, `StepStageLemmas` on steps, `OneFormLemmas`, that there is at most one form over leaves.
 //! A change here touches: `sequence_form`, `zero_sum_lp`, `lemke_pivot` and
 //! `behaviour_profile`.
 #![tactic(auto)]
@@ -28,25 +30,29 @@ mod cells;
 mod form;
 mod matrix;
 mod payoffs;
+mod plans;
 mod set_rows;
+mod sizes;
 mod steps;
 mod stop;
 mod types;
 
 pub use form::{SeqForm, Side};
 pub use matrix::dense;
+pub use plans::Plans;
 pub use set_rows::{set_at, set_entry};
+pub use sizes::{Counts, program_size, rows, side_counts};
 pub use steps::{product, sum};
 pub use stop::SeqStop;
 pub use types::{Cell, Leaf, SetRow};
 
-/// Leaves have one list of cells.
+/// Leaves have at most one list of cells.
 pub fn cells_are_one()
     ensures { (leaves : List Leaf) (one other : List Cell) → AreCells leaves one
         → AreCells leaves other → one ≡ other }
 {}
 
-/// The steps of leaves all fit, or one of them is the first that does not.
+/// Leaves have at most one answer: that all their steps fit, or the first that does not.
 pub fn gatherings_are_single()
     ensures { (leaves : List Leaf) → IsSingle (gathering_in leaves) }
 {}

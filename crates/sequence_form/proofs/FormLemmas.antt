@@ -1,4 +1,4 @@
--- A tree and a table have one form, or one reason at most why they have none.
+-- A tree and a table have at most one answer: a form, or the reason why they have none.
 use Rattle.std.proofs.Common.{ℕ, ◌≡◌, ◌≢◌, inl, inr, Ok, length}
 use Rattle.std.specs.List.{range_with_len}
 use Rattle.std.proofs.lemmas.Bool.{cases_eq}

@@ -4,29 +4,16 @@ ghost use Rattle.game_core.specs.Table.{strategy_counts};
 ghost use Rattle.game_core.specs.TreeGame.{game_of_tree};
 ghost use Rattle.game_theory.specs.OwnSets.{own_sets};
 ghost use Rattle.sequence_data.specs.Data.{FormData};
+ghost use Rattle.sequence_data.specs.Sizes.{AreFew, counts_of};
 ghost use Rattle.sequence_forms.specs.Sequences.{side_of};
 ghost use Rattle.sequence_forms.specs.Sides.{sequences};
-ghost use Rattle.sequence_form.specs.Counts.{AreFew, counts_of, problem_rows, size_of_program};
 ghost use Rattle.sequence_form.specs.Forms.{IsTableForm, IsTreeForm};
 ghost use Rattle.sequence_form.specs.Sequences.{start_side, tree_side};
 
-use crate::sequences::own_actions;
+use crate::sequences::sequence_count_of;
 use game_core::tree_parts::{is_own, stands_for_game_tree};
 use game_core::{Table, Tree};
-
-/// The sizes of a sequence form: of both players the numbers of sequences, the empty one included, and of own
-/// sets.
-#[derive(Clone, Copy, Debug, PartialEq, Eq)]
-pub struct Counts {
-    /// The sequences of player one.
-    pub sequences_one: u64,
-    /// The sequences of player two.
-    pub sequences_two: u64,
-    /// The sets of player one.
-    pub sets_one: u64,
-    /// The sets of player two.
-    pub sets_two: u64,
-}
+use sequence_data::Counts;
 
 // How many sequences a player has.
 fn sequence_count(tree: &Tree, player: u32) -> u64
@@ -36,7 +23,7 @@ fn sequence_count(tree: &Tree, player: u32) -> u64
     stands_for_game_tree(tree);
     let mut count = 1;
     for set in 0..tree.sets().len() {
-        count += own_actions(tree, set, player) as u64;
+        count += sequence_count_of(tree, set, player) as u64;
     }
     count
 }
@@ -90,20 +77,4 @@ pub fn counts_table(table: &Table) -> Counts
         sets_one: 1,
         sets_two: 1,
     }
-}
-
-/// How many rows the complementarity problem of a form of these sizes has.
-pub fn rows(form: &Counts) -> u64
-    requires { AreFew form.now }
-    ensures { result ≡ problem_rows form.now }
-{
-    form.sequences_one + form.sequences_two + 2 * (form.sets_one + 1) + 2 * (form.sets_two + 1)
-}
-
-/// The size of the linear program of a form of these sizes: its rows and columns together.
-pub fn program_size(form: &Counts) -> u64
-    requires { AreFew form.now }
-    ensures { result ≡ size_of_program form.now }
-{
-    (form.sets_one + 1) + form.sequences_two + form.sequences_one + (form.sets_two + 1)
 }

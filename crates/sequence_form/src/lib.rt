@@ -4,7 +4,7 @@
 //! Callers may rely on: `build` and `build_table` give the form, or the first reason why there is
 //! none; by law it stands for the game, and two plans pay by it what they pay in the game.
 //! Definitions: `specs::Forms` says what a tree and a table answer, `Laws` what a form stands for,
-//! `Sequences` the sides of a tree, `Paths` its leaves and their steps, `Counts` the sizes.
+//! `Sequences` the sides of a tree, `Paths` its leaves and their steps; `sequence_data` has the sizes.
 //! Lemmas for callers: `proofs::FormLemmas`, `KeptFormLemmas`, `Laws` and `TableLeafLemmas` on
 //! built forms.
 //! A change here touches: `behaviour_profile`, and the stages and laws of `lp` and `lcp`.
@@ -27,17 +27,19 @@ mod sequences;
 mod table;
 mod tree;
 
-pub use counts::{Counts, counts_table, counts_tree, program_size, rows};
-pub use sequence_data::{Cell, Leaf, SeqForm, SeqStop, SetRow, Side};
+pub use counts::{counts_table, counts_tree};
+pub use sequence_data::{
+    Cell, Counts, Leaf, Plans, SeqForm, SeqStop, SetRow, Side, program_size, rows,
+};
 pub use table::build_table;
 pub use tree::build;
 
-/// A tree has one form, or one reason why it has none.
+/// A tree has at most one answer: its form, or the reason why it has none.
 pub fn tree_forms_are_single()
     ensures { (t : GameTree) → IsSingle (tree_form t) }
 {}
 
-/// A table has one form, or one reason why it has none.
+/// A table has at most one answer: its form, or the reason why it has none.
 pub fn table_forms_are_single()
     ensures { (t : GameTable) → IsSingle (table_form t) }
 {}

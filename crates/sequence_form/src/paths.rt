@@ -56,8 +56,8 @@ fn chance(tree: &Tree, above: Frac, node: usize) -> Result<Frac, SeqStop>
     match owner(tree, set as usize) {
         Some(_) => Ok(above),
         None => {
-            let prob = probability(tree, set as usize, branch(tree, node) as usize);
-            product(node as u32, above, prob)
+            let probability = probability(tree, set as usize, branch(tree, node) as usize);
+            product(node as u32, above, probability)
         }
     }
 }

@@ -13,7 +13,7 @@ use sequence_data::{SetRow, Side};
 use std::alloc::Global;
 
 // How many sequences a set gives a player: one for each action where the player owns it, and else none.
-pub(crate) fn own_actions(tree: &Tree, set: usize, player: u32) -> u32
+pub(crate) fn sequence_count_of(tree: &Tree, set: usize, player: u32) -> u32
     requires { set < length tree.now.sets }
     ensures value { result ≡ sequence_count_of (game_of_tree tree.now) player set }
     ensures few { result < 65536 }
@@ -36,7 +36,7 @@ pub(crate) fn first_sequences(alloc: Global, tree: &Tree, player: u32) -> Result
     let mut next = 1;
     firsts.push(next)?;
     for set in 0..sets {
-        next += own_actions(tree, set, player);
+        next += sequence_count_of(tree, set, player);
         firsts.push(next)?;
     }
     Ok(firsts)

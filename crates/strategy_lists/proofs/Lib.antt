@@ -4,7 +4,6 @@ pub mod EndListLemmas
 pub mod LeftOutDecisionLemmas
 mod MoveLemmas
 pub mod OwnNumberLemmas
-mod ParentLemmas
 mod PlayerDecisionLemmas
 pub mod ReachedDecisionLemmas
 mod ReducedListLemmas

@@ -1,8 +1,6 @@
 -- Numbers that are a player's own, and the place of each of them.
-use Rattle.std.proofs.Common.{ℕ, suc, ◌+◌, ◌^◌, eqb, ◌<◌, ◌≡◌, inl, inr, Decides, Option, Some, None, List, [], ◌∷◌, ◌++◌, length, map, get_or, All, refl, sym, ap, subst, ◌∙◌, arith}
-use Rattle.std.specs.Option.{option_eq}
-use Rattle.std.specs.Prelude.{◌==◌, IfSome, slice_index}
-use Rattle.std.proofs.lemmas.Bool.Decides.{Decides-eqb, Decides-like}
+use Rattle.std.proofs.Common.{ℕ, suc, ◌+◌, ◌^◌, ◌<◌, ◌≡◌, inl, inr, Option, Some, None, List, [], ◌∷◌, ◌++◌, length, map, get_or, All, refl, sym, ap, subst, ◌∙◌, arith}
+use Rattle.std.specs.Prelude.{IfSome, slice_index}
 use Rattle.std.proofs.lemmas.Bool.{cases_lt, cases_eq}
 use Rattle.std.proofs.lemmas.List.{length_push, length-map, length-set, get_or-set_same, get_or-set_other, get_or_append_left, get_or_push}
 use Rattle.std.proofs.lemmas.List.Elements.{All-map}
@@ -89,8 +87,3 @@ ArePlaces-owners t owners places is h =
 pub owners-within : (t : GameTree) (owners : List (Option ℕ)) → IsGameTree t → owners ≡ map (λ set. set.owner) t.sets → All (IsBelow (length t.players)) owners
 owners-within t owners valid is =
     rw is (All-map (IsBelow (length t.players)) (λ set. set.owner) t.sets (λ s d below. (valid.sets_fit s (get_or t.sets s d) (slice_get-get_or t.sets s d below)).owner_within))
-
--- the test whether an owner is this player
-pub owner-decides : (o : Option ℕ) (i : ℕ) → Decides (option_eq eqb o (Some i)) (o ≡ Some i)
-owner-decides None i = (λ e. cc, λ e. cc)
-owner-decides (Some j) i = Decides-like (j == i) (λ e. ap Some e) (λ e. cc) (Decides-eqb j i)

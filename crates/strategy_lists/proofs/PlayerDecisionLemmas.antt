@@ -73,14 +73,14 @@ module _ (t : Tree) (n i : ℕ) (numbers : List ℕ) (latest : List (Option ℕ)
 
   -- the decision of the last node above node n at which the player moves
   earlier-edge : (edge : Edge) → (s : IsEdgeTo t i numbers n edge) → HasEarlier s.node
-  earlier-edge edge s = earlier_at s.node s.last.above (mover-move t i s.node s.last.set s.last.is_move)
+  earlier-edge edge s = earlier_at s.node s.last.above (mover-move t i s.node s.set s.last.is_move)
 
   -- the history by the edge before a decision
   history-by : (before : Option Edge) → LeadsTo t i numbers n before → own_history t i n ≡ history_by t i h.nodes before
   history-by None led = led
   history-by (Some edge) led =
       let found = earlier-edge edge led in
-      let set : get_or (own_sets t i) edge.place 0 ≡ led.last.set = get_or_from_slice_get (own_sets t i) edge.place led.last.set 0 led.place_is in
+      let set : get_or (own_sets t i) edge.place 0 ≡ led.set = get_or_from_slice_get (own_sets t i) edge.place led.set 0 led.place_is in
       led.last.history_is ∙ rw (found.history_is, led.number_is, set) refl
 
   -- the edge before a decision comes from an earlier one
@@ -89,8 +89,8 @@ module _ (t : Tree) (n i : ℕ) (numbers : List ℕ) (latest : List (Option ℕ)
   comes-from (Some edge) led =
       let found = earlier-edge edge led in
       let stands_at : slice_get decisions edge.decision ≡ Some found.decision = ap (slice_get decisions) led.number_is ∙ found.stands_at in
-      let set : found.is_at_node.set ≡ led.last.set = same_Some _ _ (sym found.is_at_node.at_set ∙ led.last.is_move.at_set) in
-      (slice_get_within decisions edge.decision found.decision stands_at, found.decision, stands_at, own_set-place t i led.last.set edge.place found.decision.place led.place_is (found.is_at_node.place_is ∙ ap Some set))
+      let set : found.is_at_node.set ≡ led.set = same_Some _ _ (sym found.is_at_node.at_set ∙ led.last.is_move.at_set) in
+      (slice_get_within decisions edge.decision found.decision stands_at, found.decision, stands_at, own_set-place t i led.set edge.place found.decision.place led.place_is (found.is_at_node.place_is ∙ ap Some set))
 
   -- what is made at node n is the decision there
   made-decision : (last : Decision) → n < t.size → IsMadeAt t i numbers n last → IsDecisionAt t i h.nodes last n

@@ -1,18 +1,11 @@
 -- The decisions of the players, one node of a game tree after another.
-use Rattle.std.specs.Prelude.{ℕ, ◌<◌, ◌≡◌, ◌⊎◌, List, [], ◌∷◌, ◌++◌, slice_index, slice_get, Option, Some, None}
+use Rattle.std.specs.Prelude.{ℕ, ◌≡◌, ◌⊎◌, List, [], ◌∷◌, ◌++◌, slice_index, slice_get, Option, Some, None}
 use Rattle.game_theory.specs.OwnSets.{own_sets, Chooses}
 use Rattle.game_theory.specs.Trees.{Tree}
 use Rattle.game_theory.specs.Recall.{own_history}
-use Rattle.game_core.specs.declared.tree.Kind.{Kind}
-use Rattle.game_core.specs.declared.tree.Kind.TheVariants.{Chance, Move, End}
+use Rattle.game_core.specs.LastMoves.{IsLastMove}
 use Rattle.strategy_lists.specs.declared.decision.Decision.{Decision}
 use Rattle.strategy_lists.specs.declared.decision.Edge.{Edge}
-
--- the player who moves at a node of this kind
-abbrev pub mover_of : Kind → Option ℕ
-mover_of Chance = None
-mover_of (Move i) = Some i
-mover_of End = None
 
 -- the player who owns a node's set
 abbrev pub owner_of : Tree → Option ℕ → Option ℕ
@@ -23,19 +16,13 @@ owner_of t (Some s) = t.owner s
 abbrev pub mover : Tree → ℕ → Option ℕ
 mover t k = owner_of t (t.set k)
 
--- node a is the last node above node k at which player i moves, and this action leads from there towards k
-pub record IsLastMove (t : Tree) (i k a action : ℕ) : Type 0 where
-  pub above : a < k
-  pub set : ℕ
-  pub is_move : Chooses t a i set
-  pub history_is : own_history t i k ≡ own_history t i a ++ (set, action) ∷ []
-
 -- an edge is that by the last move above node k, where these are the numbers of the decisions at the nodes
 pub record IsEdgeTo (t : Tree) (i : ℕ) (numbers : List ℕ) (k : ℕ) (edge : Edge) : Type 0 where
   pub node : ℕ
-  pub last : IsLastMove t i k node edge.action
+  pub set : ℕ
+  pub last : IsLastMove t i k node set edge.action
   pub number_is : edge.decision ≡ slice_index numbers node
-  pub place_is : slice_get (own_sets t i) edge.place ≡ Some last.set
+  pub place_is : slice_get (own_sets t i) edge.place ≡ Some set
 
 -- the edge before the decision at node k, where there is one
 abbrev pub LeadsTo : Tree → ℕ → List ℕ → ℕ → Option Edge → Type 0

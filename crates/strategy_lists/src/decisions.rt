@@ -1,47 +1,17 @@
 // The players' decisions.
-ghost use Rattle.std.specs.Prelude.{◌≡◌, ◌<◌, ◌≤◌, ◌^◌, ℕ, All, length, map, IfOk, IfSome, MatchOption, slice_get, Some, None, []};
-ghost use Rattle.game_theory.specs.Recall.{own_history};
+ghost use Rattle.std.specs.Prelude.{◌≡◌, ◌<◌, ◌≤◌, ◌^◌, ℕ, All, length, map, IfOk, IfSome, slice_get, Some, []};
+ghost use Rattle.game_core.specs.LastMoves.{IsLastAbove};
 ghost use Rattle.game_core.specs.TreeGame.{game_of_tree};
 ghost use Rattle.reduced_strategies.specs.Places.{ArePlaces};
 ghost use Rattle.strategy_lists.specs.Decisions.{AreDecisionsOfAll};
-ghost use Rattle.strategy_lists.specs.Made.{HasTaken, IsLastMove, IsMadeAt, mover, mover_of};
+ghost use Rattle.strategy_lists.specs.Made.{HasTaken, IsMadeAt, mover};
 ghost use Rattle.game_theory.specs.OwnSets.{Chooses, own_sets};
 
 use crate::{Decision, Edge};
 use answers::Memory;
 use game_core::tree_parts::choice_at;
-use game_core::{Kind, Node, Tree, trees_are_game_trees};
+use game_core::{LastMove, Tree, last_moves, trees_are_game_trees};
 use std::alloc::Global;
-
-// The player who moves at a node, where one does.
-fn mover(node: &Node) -> Option<u32>
-    ensures { result ≡ mover_of node.now.kind }
-{
-    match node.kind {
-        Kind::Move { player } => Some(player),
-        Kind::Chance | Kind::End => None,
-    }
-}
-
-// The last node above this one at which the player moves, and the action there that leads towards this one;
-// nothing where there is no such node.
-fn last_move(tree: &Tree, number: usize, player: u32) -> Option<(usize, u32)>
-    requires { number < length tree.now.nodes }
-    ensures { MatchOption result (own_history (game_of_tree tree.now) player number
-        ≡ []) (λ last. IsLastMove (game_of_tree tree.now) player number last.0 last.1) }
-{
-    trees_are_game_trees();
-    let nodes = tree.nodes();
-    let mut here = number;
-    while let Some(parent) = nodes[here].parent {
-        let above = parent as usize;
-        if mover(&nodes[above]) == Some(player) {
-            return Some((above, nodes[here].branch));
-        }
-        here = above;
-    }
-    None
-}
 
 // The place of a node's set among its owner's own sets; any number where no player moves.
 fn place_at(tree: &Tree, places: &[u32], number: usize) -> u32
@@ -56,17 +26,25 @@ fn place_at(tree: &Tree, places: &[u32], number: usize) -> u32
     }
 }
 
-// The decision at a node where this player moves. `numbers` has the numbers of the decisions at the nodes before
-// it.
-fn decision_at(tree: &Tree, places: &[u32], numbers: &[u32], number: usize, player: u32) -> Decision
+// The decision at a node where this player moves, whose last move above the node this is. `numbers` has the
+// numbers of the decisions at the nodes before it.
+fn decision_at(
+    tree: &Tree,
+    places: &[u32],
+    numbers: &[u32],
+    number: usize,
+    player: u32,
+    last: Option<LastMove>,
+) -> Decision
     requires places { ArePlaces (game_of_tree tree.now) places.now }
     requires numbers { number ≤ length numbers.now }
     requires within { number < length tree.now.nodes }
     requires moves { mover (game_of_tree tree.now) number ≡ Some player }
+    requires last { IsLastAbove (game_of_tree tree.now) player number last }
     ensures { IsMadeAt (game_of_tree tree.now) player numbers.now number result }
 {
-    let before = match last_move(tree, number, player) {
-        Some((node, action)) => Some(Edge {
+    let before = match last {
+        Some((node, _, action)) => Some(Edge {
             decision: numbers[node],
             place: place_at(tree, places, node),
             action,
@@ -129,12 +107,14 @@ pub fn decisions_of_all(
 {
     trees_are_game_trees();
     let mut lists = no_lists(alloc, tree.players().len())?;
+    let moves = last_moves(alloc, tree)?;
     let mut latest = vec![in alloc; None; tree.sets().len()]?;
     let mut numbers = Vec::new(alloc);
     for node in 0..tree.nodes().len() {
         let mut number = 0;
         if let Some((player, set)) = choice_at(tree, node) {
-            let decision = decision_at(tree, places, numbers.as_slice(), node, player);
+            let last = moves[node];
+            let decision = decision_at(tree, places, numbers.as_slice(), node, player, last);
             let list = &mut lists[player as usize];
             number = take(list, &mut latest[set as usize], decision)?;
         }

@@ -18,9 +18,10 @@ fn own_action_counts(alloc: Global, tree: &Tree, player: u32) -> Result<Vec<u32>
     ensures { IfOk result (λ counts. counts.items ≡ own_counts (game_of_tree tree.now) player) }
 {
     let sets = tree.sets();
-    let mut counts = Vec::new(alloc);
-    while let Some(set) = tree.own_sets(player, counts.len() as u32) {
-        counts.push(sets[set as usize].actions().len() as u32)?;
+    let own = tree.sets_of(player);
+    let mut counts = Vec::with_capacity(alloc, own.len())?;
+    for set in own {
+        counts.push(sets[*set as usize].actions().len() as u32)?;
     }
     Ok(counts)
 }

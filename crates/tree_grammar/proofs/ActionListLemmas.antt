@@ -9,8 +9,8 @@ use Rattle.rational.specs.Rational.{ℚ, ◌+ℚ◌, zero_ℚ, one_ℚ}
 use Rattle.game_core.specs.declared.tree.Action.{Action}
 use Rattle.game_core.specs.declared.token.Token.{Token}
 use Rattle.game_core.specs.declared.token.Token.TheVariants.{Left, Text, Number}
-use Rattle.file_parts.specs.Reading.{left_at, right_at, texts_at, opens}
-use Rattle.file_parts.proofs.TokenLaws.{left_is, le_passes}
+use Rattle.file_parts.specs.Reading.{opening_brace_at, closing_brace_at, texts_at, opens}
+use Rattle.file_parts.proofs.TokenLaws.{opening_brace_is, le_passes}
 use Rattle.written_trees.specs.Building.{may_follow, adds_up, may_be_first, repeats_actions}
 use Rattle.written_trees.specs.Described.{IsActionOf, IsActionList}
 use Rattle.written_trees.proofs.InsertedKeyLemmas.{eq_self}
@@ -96,12 +96,12 @@ abbrev tested : Option ℕ → Listed → Listed
 tested owner reading = reading >>= λ x. if may_be_first owner x.0 then Some x else None
 
 -- no list comes
-pub first_without : (owner : Option ℕ) (tokens : List Token) → left_at tokens ≡ None → first_list_at owner tokens ≡ None
+pub first_without : (owner : Option ℕ) (tokens : List Token) → opening_brace_at tokens ≡ None → first_list_at owner tokens ≡ None
 unfolding first_list_at action_list_at
 first_without owner tokens l = rw l refl
 
 -- after its brace a first list is read, closed and tested
-pub first_list_is : (owner : Option ℕ) (tokens inner : List Token) → left_at tokens ≡ Some inner → first_list_at owner tokens ≡ tested owner (actions_at owner inner >>= closed_list)
+pub first_list_is : (owner : Option ℕ) (tokens inner : List Token) → opening_brace_at tokens ≡ Some inner → first_list_at owner tokens ≡ tested owner (actions_at owner inner >>= closed_list)
 unfolding first_list_at action_list_at
 first_list_is owner tokens inner l = rw l refl
 
@@ -111,7 +111,7 @@ own_tested i None = refl
 own_tested i (Some x) = refl
 
 -- a player's list is read and closed
-pub own_list_is : (owner : Option ℕ) (i n : ℕ) (tokens inner following : List Token) (actions : List Action) (closed : Option (List Token)) → owner ≡ Some i → left_at tokens ≡ Some inner → actions_at (Some 0) inner ≡ Some (actions, following) → n ≡ length actions → closed_at n following ≡ closed
+pub own_list_is : (owner : Option ℕ) (i n : ℕ) (tokens inner following : List Token) (actions : List Action) (closed : Option (List Token)) → owner ≡ Some i → opening_brace_at tokens ≡ Some inner → actions_at (Some 0) inner ≡ Some (actions, following) → n ≡ length actions → closed_at n following ≡ closed
     → first_list_at owner tokens ≡ (closed >>= λ rest. Some (actions, rest))
 own_list_is owner i n tokens inner following actions closed o l a e c =
     let rest : first_list_at (Some i) tokens ≡ (closed_at (length actions) following >>= λ rest. Some (actions, rest)) = first_list_is (Some i) tokens inner l ∙ ap (λ (r : Listed). tested (Some i) (r >>= closed_list)) a ∙ own_tested i (closed_list (actions, following)) in
@@ -135,7 +135,7 @@ sums_tested None = refl
 sums_tested (Some x) = sum_tested x.0 x.1 (sum_after zero_ℚ x.0) (closed_at (length x.0) x.1) refl (adds_up_is zero_ℚ x.0)
 
 -- a list of chance is added up, closed and tested
-pub chance_list_is : (owner : Option ℕ) (tokens inner : List Token) (sums : Summed) → owner ≡ None → left_at tokens ≡ Some inner → summed_at zero_ℚ inner ≡ sums → first_list_at owner tokens ≡ (sums >>= closed_sum)
+pub chance_list_is : (owner : Option ℕ) (tokens inner : List Token) (sums : Summed) → owner ≡ None → opening_brace_at tokens ≡ Some inner → summed_at zero_ℚ inner ≡ sums → first_list_at owner tokens ≡ (sums >>= closed_sum)
 chance_list_is owner tokens inner sums o l s =
     let all : first_list_at None tokens ≡ (summed_at zero_ℚ inner >>= closed_sum) = first_list_is None tokens inner l ∙ sums_tested (chance_actions_at inner) ∙ ap (λ (r : Summed). r >>= closed_sum) (sym (summed_is zero_ℚ inner)) in
     rw (o, ← s) all
@@ -143,7 +143,7 @@ chance_list_is owner tokens inner sums o l s =
 -- ---- a later list
 -- the brace that closes actions, and whether they repeat others
 abbrev repeated_after : List Action → List Action × List Token → Option (List Token)
-repeated_after actions x = right_at x.1 >>= λ rest. if repeats_actions actions (Some x.0) then Some rest else None
+repeated_after actions x = closing_brace_at x.1 >>= λ rest. if repeats_actions actions (Some x.0) then Some rest else None
 
 -- nothing comes of a test that fails
 never : (closed : Option (List Token)) → (let none : List Token → Option (List Token) = λ rest. None in closed >>= none) ≡ None
@@ -158,7 +158,7 @@ closed_as_it_is (Some rest) = refl
 -- no action is repeated by one
 too_long : (action : Action) (reading : Listed) → ((reading >>= more_actions action) >>= repeated_after []) ≡ None
 too_long action None = refl
-too_long action (Some x) = never (right_at x.1)
+too_long action (Some x) = never (closing_brace_at x.1)
 
 -- the first action is compared, and then the others
 compared : (same : Bool) (closed : Option (List Token)) (others : Bool) → (closed >>= λ rest. if same && others then Some rest else None) ≡ (if same then (closed >>= λ rest. if others then Some rest else None) else None)
@@ -167,33 +167,33 @@ compared false closed others = never closed
 
 repeats_on : (one action : Action) (actions : List Action) (reading : Listed) → ((reading >>= more_actions one) >>= repeated_after (action ∷ actions)) ≡ (if eq_ℚ one.prob action.prob then (reading >>= repeated_after actions) else None)
 repeats_on one action actions None = sym (nothing_follows (eq_ℚ one.prob action.prob))
-repeats_on one action actions (Some x) = compared (eq_ℚ one.prob action.prob) (right_at x.1) (repeats_actions actions (Some x.0))
+repeats_on one action actions (Some x) = compared (eq_ℚ one.prob action.prob) (closing_brace_at x.1) (repeats_actions actions (Some x.0))
 
 -- what follows a test that passes
-after_test : (same : Bool) (tokens : List Token) (f : List Token → Option (List Token)) → (if same then (f tokens >>= right_at) else None) ≡ (((if same then Some tokens else None) >>= f) >>= right_at)
+after_test : (same : Bool) (tokens : List Token) (f : List Token → Option (List Token)) → (if same then (f tokens >>= closing_brace_at) else None) ≡ (((if same then Some tokens else None) >>= f) >>= closing_brace_at)
 after_test true tokens f = refl
 after_test false tokens f = refl
 
 -- chance's actions repeat these, and are closed
-chance_repeats : (actions : List Action) (tokens : List Token) → (chance_actions_at tokens >>= repeated_after actions) ≡ (all_repeated_at None actions tokens >>= right_at)
+chance_repeats : (actions : List Action) (tokens : List Token) → (chance_actions_at tokens >>= repeated_after actions) ≡ (all_repeated_at None actions tokens >>= closing_brace_at)
 chance_repeats [] (Text name ∷ Number prob ∷ tokens) = too_long (record { name = name; prob = prob }) (chance_actions_at tokens)
 chance_repeats [] (Text name ∷ tokens) = refl
-chance_repeats [] tokens = closed_as_it_is (right_at tokens)
+chance_repeats [] tokens = closed_as_it_is (closing_brace_at tokens)
 chance_repeats (action ∷ actions) (Text name ∷ Number prob ∷ tokens) =
     let one : Action = record { name = name; prob = prob } in
     repeats_on one action actions (chance_actions_at tokens) ∙ ap (λ (r : Option (List Token)). if eq_ℚ prob action.prob then r else None) (chance_repeats actions tokens) ∙ after_test (eq_ℚ prob action.prob) tokens (all_repeated_at None actions)
 chance_repeats (action ∷ actions) (Text name ∷ tokens) = refl
-chance_repeats (action ∷ actions) tokens = never (right_at tokens)
+chance_repeats (action ∷ actions) tokens = never (closing_brace_at tokens)
 
 -- a player's actions repeat these, and are closed
-own_repeats : (i : ℕ) (actions : List Action) (tokens : List Token) → AllByRecursion (IsActionOf (Some i)) actions → (actions_at (Some i) tokens >>= repeated_after actions) ≡ (all_repeated_at (Some i) actions tokens >>= right_at)
-own_repeats i [] (Text name ∷ tokens) h = never (right_at (texts_at tokens).1)
-own_repeats i [] tokens h = closed_as_it_is (right_at tokens)
+own_repeats : (i : ℕ) (actions : List Action) (tokens : List Token) → AllByRecursion (IsActionOf (Some i)) actions → (actions_at (Some i) tokens >>= repeated_after actions) ≡ (all_repeated_at (Some i) actions tokens >>= closing_brace_at)
+own_repeats i [] (Text name ∷ tokens) h = never (closing_brace_at (texts_at tokens).1)
+own_repeats i [] tokens h = closed_as_it_is (closing_brace_at tokens)
 own_repeats i (action ∷ actions) (Text name ∷ tokens) h = rw (h.0, eq_self eq_ℚ eq_ℚ-decides zero_ℚ) (own_repeats i actions tokens h.1)
-own_repeats i (action ∷ actions) tokens h = never (right_at tokens)
+own_repeats i (action ∷ actions) tokens h = never (closing_brace_at tokens)
 
 -- actions repeat these, and are closed
-actions_repeat : (owner : Option ℕ) (actions : List Action) (tokens : List Token) → All (IsActionOf owner) actions → (actions_at owner tokens >>= repeated_after actions) ≡ (all_repeated_at owner actions tokens >>= right_at)
+actions_repeat : (owner : Option ℕ) (actions : List Action) (tokens : List Token) → All (IsActionOf owner) actions → (actions_at owner tokens >>= repeated_after actions) ≡ (all_repeated_at owner actions tokens >>= closing_brace_at)
 actions_repeat None actions tokens h = chance_repeats actions tokens
 actions_repeat (Some i) actions tokens h = own_repeats i actions tokens (recursion_from_All (IsActionOf (Some i)) actions h)
 
@@ -229,18 +229,18 @@ compared_closed actions list (Some rest) = refl
 
 list_repeats : (actions : List Action) (reading : Listed) → 0 < length actions → compared_list actions (reading >>= closed_list) ≡ (reading >>= repeated_after actions)
 list_repeats actions None some = refl
-list_repeats actions (Some x) some = compared_closed actions x.0 (closed_at (length x.0) x.1) ∙ counted (right_at x.1) (length x.0) (repeats_actions actions (Some x.0)) (repeats_some actions x.0 some)
+list_repeats actions (Some x) some = compared_closed actions x.0 (closed_at (length x.0) x.1) ∙ counted (closing_brace_at x.1) (length x.0) (repeats_actions actions (Some x.0)) (repeats_some actions x.0 some)
 
 -- no later list comes
-no_left : (tokens : List Token) → left_at tokens ≡ None → opens tokens ≡ false
-no_left (Left ∷ tokens) e = cc
-no_left _ e = refl
+no_opening_brace : (tokens : List Token) → opening_brace_at tokens ≡ None → opens tokens ≡ false
+no_opening_brace (Left ∷ tokens) e = cc
+no_opening_brace _ e = refl
 
-pub later_without : (owner : Option ℕ) (actions : List Action) (tokens : List Token) → left_at tokens ≡ None → later_list_at owner actions tokens ≡ Some tokens
+pub later_without : (owner : Option ℕ) (actions : List Action) (tokens : List Token) → opening_brace_at tokens ≡ None → later_list_at owner actions tokens ≡ Some tokens
 unfolding later_list_at
-later_without owner actions tokens l = rw (no_left tokens l) refl
+later_without owner actions tokens l = rw (no_opening_brace tokens l) refl
 
 -- a later list is compared as it is read
-pub later_list_is : (owner : Option ℕ) (actions : List Action) (tokens inner : List Token) → IsActionList owner actions → left_at tokens ≡ Some inner → later_list_at owner actions tokens ≡ (all_repeated_at owner actions inner >>= right_at)
+pub later_list_is : (owner : Option ℕ) (actions : List Action) (tokens inner : List Token) → IsActionList owner actions → opening_brace_at tokens ≡ Some inner → later_list_at owner actions tokens ≡ (all_repeated_at owner actions inner >>= closing_brace_at)
 unfolding later_list_at action_list_at
-later_list_is owner actions tokens inner h l = rw (left_is tokens inner l) (list_repeats actions (actions_at owner inner) h.some_action ∙ actions_repeat owner actions inner h.are_of_owner)
+later_list_is owner actions tokens inner h l = rw (opening_brace_is tokens inner l) (list_repeats actions (actions_at owner inner) h.some_action ∙ actions_repeat owner actions inner h.are_of_owner)

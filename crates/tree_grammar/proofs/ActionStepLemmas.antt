@@ -7,7 +7,7 @@ use Rattle.rational.specs.Rational.{ℚ, zero_ℚ, one_ℚ}
 use Rattle.game_core.specs.declared.tree.Action.{Action}
 use Rattle.file_parts.specs.declared.stop.PartStop.{PartStop}
 use Rattle.file_parts.specs.declared.stop.PartStop.TheVariants as part_stops
-use Rattle.file_parts.specs.Reading.{left_at, text_at, number_at, texts_at}
+use Rattle.file_parts.specs.Reading.{opening_brace_at, text_at, number_at, texts_at}
 use Rattle.file_parts.specs.Parsing.{Parsed, ◌>>=◌, IsPartStop}
 use Rattle.file_parts.proofs.ParseLemmas.{refused_first}
 use Rattle.file_parts.proofs.ReaderLemmas.{chain, ok_same}
@@ -104,21 +104,21 @@ pub ruleset repeat_steps = (repeats_go_on, repeats_stop)
 
 -- ---- first lists
 -- no list comes
-pub first_lacks : (owner : Option ℕ) (set : ℕ) (tokens : List Token) (stopped : PartStop EfgKind) → left_at tokens ≡ None → stopped ≡ part_stops.Unexpected SetMismatch (length tokens) → IsPartStop stopped (parse_first_list owner set tokens)
+pub first_lacks : (owner : Option ℕ) (set : ℕ) (tokens : List Token) (stopped : PartStop EfgKind) → opening_brace_at tokens ≡ None → stopped ≡ part_stops.Unexpected SetMismatch (length tokens) → IsPartStop stopped (parse_first_list owner set tokens)
 unfolding parse_first_list
 first_lacks owner set tokens stopped none u = rw (none, u) refl
 
 -- the list of a player, and of chance, after its brace
-pub first_own : (owner : Option ℕ) (i set : ℕ) (tokens inner : List Token) → owner ≡ Some i → left_at tokens ≡ Some inner → parse_first_list owner set tokens ≡ parse_own_list inner
+pub first_own : (owner : Option ℕ) (i set : ℕ) (tokens inner : List Token) → owner ≡ Some i → opening_brace_at tokens ≡ Some inner → parse_first_list owner set tokens ≡ parse_own_list inner
 unfolding parse_first_list
 first_own owner i set tokens inner o l = rw (o, l) refl
 
-pub first_chance : (owner : Option ℕ) (set : ℕ) (tokens inner : List Token) → owner ≡ None → left_at tokens ≡ Some inner → parse_first_list owner set tokens ≡ parse_chance_list set inner
+pub first_chance : (owner : Option ℕ) (set : ℕ) (tokens inner : List Token) → owner ≡ None → opening_brace_at tokens ≡ Some inner → parse_first_list owner set tokens ≡ parse_chance_list set inner
 unfolding parse_first_list
 first_chance owner set tokens inner o l = rw (o, l) refl
 
 -- a player's list that is not closed, and one that is
-pub own_open : (owner : Option ℕ) (i set n : ℕ) (tokens inner following : List Token) (actions : List Action) (stopped : PartStop EfgKind) → owner ≡ Some i → left_at tokens ≡ Some inner → ◌≡◌ {A = Parsed EfgKind (List Action)} (Ok (map own_action (texts_at inner).0, (texts_at inner).1)) (Ok (actions, following)) → n ≡ length actions
+pub own_open : (owner : Option ℕ) (i set n : ℕ) (tokens inner following : List Token) (actions : List Action) (stopped : PartStop EfgKind) → owner ≡ Some i → opening_brace_at tokens ≡ Some inner → ◌≡◌ {A = Parsed EfgKind (List Action)} (Ok (map own_action (texts_at inner).0, (texts_at inner).1)) (Ok (actions, following)) → n ≡ length actions
     → IsPartStop stopped (parse_closed n following) → IsPartStop stopped (parse_first_list owner set tokens)
 own_open owner i set n tokens inner following actions stopped o l a e r =
     let same : (map own_action (texts_at inner).0, (texts_at inner).1) ≡ (actions, following) = ok_same (map own_action (texts_at inner).0, (texts_at inner).1) (actions, following) a in
@@ -126,7 +126,7 @@ own_open owner i set n tokens inner following actions stopped o l a e r =
     let rest : following ≡ (texts_at inner).1 = sym (ap (λ (x : List Action × List Token). x.1) same) in
     rw (first_own owner i set tokens inner o l, own_list_by n inner size) (refused_first stopped (parse_closed n (texts_at inner).1) _ (subst (λ (q : List Token). IsPartStop stopped (parse_closed n q)) rest r))
 
-pub own_closed : (owner : Option ℕ) (i set n : ℕ) (tokens inner following rest : List Token) (actions : List Action) → owner ≡ Some i → left_at tokens ≡ Some inner → ◌≡◌ {A = Parsed EfgKind (List Action)} (Ok (map own_action (texts_at inner).0, (texts_at inner).1)) (Ok (actions, following)) → n ≡ length actions
+pub own_closed : (owner : Option ℕ) (i set n : ℕ) (tokens inner following rest : List Token) (actions : List Action) → owner ≡ Some i → opening_brace_at tokens ≡ Some inner → ◌≡◌ {A = Parsed EfgKind (List Action)} (Ok (map own_action (texts_at inner).0, (texts_at inner).1)) (Ok (actions, following)) → n ≡ length actions
     → parse_closed n following ≡ Ok (tt, rest) → parse_first_list owner set tokens ≡ Ok (actions, rest)
 own_closed owner i set n tokens inner following rest actions o l a e c =
     let same : (map own_action (texts_at inner).0, (texts_at inner).1) ≡ (actions, following) = ok_same (map own_action (texts_at inner).0, (texts_at inner).1) (actions, following) a in
@@ -135,24 +135,24 @@ own_closed owner i set n tokens inner following rest actions o l a e c =
     rw (first_own owner i set tokens inner o l, own_list_by n inner size, closed) (ap (λ (x : List Action × List Token). Ok (x.0, rest)) same)
 
 -- the list of chance: its actions are refused, it is not closed, its sum is another, or it is read
-pub chance_stops : (owner : Option ℕ) (set : ℕ) (tokens inner : List Token) (stopped : PartStop EfgKind) → owner ≡ None → left_at tokens ≡ Some inner → IsPartStop stopped (parse_chances set zero_ℚ inner) → IsPartStop stopped (parse_first_list owner set tokens)
+pub chance_stops : (owner : Option ℕ) (set : ℕ) (tokens inner : List Token) (stopped : PartStop EfgKind) → owner ≡ None → opening_brace_at tokens ≡ Some inner → IsPartStop stopped (parse_chances set zero_ℚ inner) → IsPartStop stopped (parse_first_list owner set tokens)
 unfolding parse_chance_list
 chance_stops owner set tokens inner stopped o l r = rw (first_chance owner set tokens inner o l) (refused_first stopped (parse_chances set zero_ℚ inner) _ r)
 
-pub chance_open : (owner : Option ℕ) (set n : ℕ) (tokens inner following : List Token) (actions : List Action) (sum : ℚ) (stopped : PartStop EfgKind) → owner ≡ None → left_at tokens ≡ Some inner → parse_chances set zero_ℚ inner ≡ Ok ((actions, sum), following) → n ≡ length actions
+pub chance_open : (owner : Option ℕ) (set n : ℕ) (tokens inner following : List Token) (actions : List Action) (sum : ℚ) (stopped : PartStop EfgKind) → owner ≡ None → opening_brace_at tokens ≡ Some inner → parse_chances set zero_ℚ inner ≡ Ok ((actions, sum), following) → n ≡ length actions
     → IsPartStop stopped (parse_closed n following) → IsPartStop stopped (parse_first_list owner set tokens)
 unfolding parse_chance_list
 chance_open owner set n tokens inner following actions sum stopped o l a e r =
     rw (first_chance owner set tokens inner o l, a) (refused_first stopped (parse_closed (length actions) following) _ (subst (λ (m : ℕ). IsPartStop stopped (parse_closed m following)) e r))
 
-pub chance_differs : (owner : Option ℕ) (set n : ℕ) (tokens inner following rest : List Token) (actions : List Action) (sum : ℚ) (stopped : PartStop EfgKind) → owner ≡ None → left_at tokens ≡ Some inner → parse_chances set zero_ℚ inner ≡ Ok ((actions, sum), following) → n ≡ length actions
+pub chance_differs : (owner : Option ℕ) (set n : ℕ) (tokens inner following rest : List Token) (actions : List Action) (sum : ℚ) (stopped : PartStop EfgKind) → owner ≡ None → opening_brace_at tokens ≡ Some inner → parse_chances set zero_ℚ inner ≡ Ok ((actions, sum), following) → n ≡ length actions
     → parse_closed n following ≡ Ok (tt, rest) → eq_ℚ sum one_ℚ ≡ false → stopped ≡ part_stops.Unexpected (Probability set sum) (length following) → IsPartStop stopped (parse_first_list owner set tokens)
 unfolding parse_chance_list
 chance_differs owner set n tokens inner following rest actions sum stopped o l a e c t u =
     let closed : parse_closed (length actions) following ≡ Ok (tt, rest) = subst (λ (m : ℕ). parse_closed m following ≡ Ok (tt, rest)) e c in
     rw (first_chance owner set tokens inner o l, a, closed, t, u) refl
 
-pub chance_closed : (owner : Option ℕ) (set n : ℕ) (tokens inner following rest : List Token) (actions : List Action) (sum : ℚ) → owner ≡ None → left_at tokens ≡ Some inner → parse_chances set zero_ℚ inner ≡ Ok ((actions, sum), following) → n ≡ length actions
+pub chance_closed : (owner : Option ℕ) (set n : ℕ) (tokens inner following rest : List Token) (actions : List Action) (sum : ℚ) → owner ≡ None → opening_brace_at tokens ≡ Some inner → parse_chances set zero_ℚ inner ≡ Ok ((actions, sum), following) → n ≡ length actions
     → parse_closed n following ≡ Ok (tt, rest) → eq_ℚ sum one_ℚ ≡ true → parse_first_list owner set tokens ≡ Ok (actions, rest)
 unfolding parse_chance_list
 chance_closed owner set n tokens inner following rest actions sum o l a e c t =

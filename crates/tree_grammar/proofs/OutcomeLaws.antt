@@ -3,9 +3,9 @@ use Rattle.std.proofs.Common.{◌≡◌, ℕ, ◌≤◌, false, List, [], ◌∷
 use Rattle.std.proofs.lemmas.Bool.Decides.{Decides-eqb}
 use Rattle.rational.specs.Rational.{ℚ}
 use Rattle.file_parts.specs.Parts.{whole_number, AreNumbers, optional_text}
-use Rattle.file_parts.specs.Reading.{left_at, right_at, whole_at, optional_text_at, opens}
+use Rattle.file_parts.specs.Reading.{opening_brace_at, closing_brace_at, whole_at, optional_text_at, opens}
 use Rattle.file_parts.proofs.ValueLemmas.{payoffs_at}
-use Rattle.file_parts.proofs.TokenLaws.{left_is, right_is, whole_is, whole_again, optional_text_is}
+use Rattle.file_parts.proofs.TokenLaws.{opening_brace_is, closing_brace_is, whole_is, whole_again, optional_text_is}
 use Rattle.file_parts.proofs.NumberLaws.{payoffs_are, payoffs_again}
 use Rattle.written_trees.specs.Written.{OutcomeUse}
 use Rattle.tree_grammar.specs.TreeFile.{ArePayoffs, IsOutcomePart}
@@ -26,12 +26,12 @@ MayBeginWithPayoffs players tokens x = (list : List Token) × ArePayoffs players
 pub payoff_list_is : (players : ℕ) (tokens : List Token) (x : List ℚ × List Token) → payoff_list_at players tokens ≡ Some x → MayBeginWithPayoffs players tokens (Some x.0, x.1)
 unfolding payoff_list_at
 payoff_list_is players tokens x e =
-    let a = bind_some (left_at tokens) _ x e in
+    let a = bind_some (opening_brace_at tokens) _ x e in
     let b = bind_some (payoffs_at players a.0) _ x a.2 in
-    let c = bind_some (right_at b.0.1) _ x b.2 in
+    let c = bind_some (closing_brace_at b.0.1) _ x b.2 in
     let p = payoffs_are players a.0 b.0 b.1 in
-    let inner : a.0 ≡ (p.front ++ Right ∷ []) ++ c.0 = p.is ∙ ap (λ (r : List Token). p.front ++ r) (right_is b.0.1 c.0 c.1) ∙ sym (append_assoc p.front (Right ∷ []) c.0) in
-    let all : tokens ≡ (Left ∷ p.front ++ Right ∷ []) ++ c.0 = left_is tokens a.0 a.1 ∙ ap (λ (r : List Token). Left ∷ r) inner in
+    let inner : a.0 ≡ (p.front ++ Right ∷ []) ++ c.0 = p.is ∙ ap (λ (r : List Token). p.front ++ r) (closing_brace_is b.0.1 c.0 c.1) ∙ sym (append_assoc p.front (Right ∷ []) c.0) in
+    let all : tokens ≡ (Left ∷ p.front ++ Right ∷ []) ++ c.0 = opening_brace_is tokens a.0 a.1 ∙ ap (λ (r : List Token). Left ∷ r) inner in
     subst (λ (y : List ℚ × List Token). MayBeginWithPayoffs players tokens (Some y.0, y.1)) (same_Some _ _ c.2) (Left ∷ p.front ++ Right ∷ [], (p.front, refl, p.are_numbers, p.all), all)
 
 -- payoffs in braces are read

@@ -6,7 +6,7 @@ use Rattle.rational.specs.Rational.{ℚ, ◌+ℚ◌}
 use Rattle.game_core.specs.declared.tree.Action.{Action}
 use Rattle.game_core.specs.declared.tree.Kind.{Kind}
 use Rattle.game_core.specs.Tree.{kind_of_owner}
-use Rattle.file_parts.specs.Reading.{left_at, right_at, text_at, word_at, number_at, whole_at, optional_text_at, texts_at, payoff_at, opens, count_at}
+use Rattle.file_parts.specs.Reading.{opening_brace_at, closing_brace_at, text_at, word_at, number_at, whole_at, optional_text_at, texts_at, payoff_at, opens, count_at}
 use Rattle.file_parts.proofs.ValueLemmas.{payoffs_at}
 use Rattle.written_trees.specs.Written.{SetUse, OutcomeUse, WrittenNode}
 use Rattle.written_trees.specs.Described.{key_of, kind_of_use}
@@ -32,7 +32,7 @@ actions_at (Some i) tokens = Some (map own_action (texts_at tokens).0, (texts_at
 -- one or more actions, closed by a brace
 unfoldable pub action_list_at : Option ℕ → List Token → Option (List Action × List Token)
 action_list_at owner tokens = do
-  inner ← left_at tokens
+  inner ← opening_brace_at tokens
   actions ← actions_at owner inner
   rest ← closed_at (length actions.0) actions.1
   Some (actions.0, rest)
@@ -52,9 +52,9 @@ set_use_at owner tokens = do
 -- payoffs in braces, one per player
 unfoldable pub payoff_list_at : ℕ → List Token → Option (List ℚ × List Token)
 payoff_list_at players tokens = do
-  inner ← left_at tokens
+  inner ← opening_brace_at tokens
   payoffs ← payoffs_at players inner
-  rest ← right_at payoffs.1
+  rest ← closing_brace_at payoffs.1
   Some (payoffs.0, rest)
 
 -- what follows an outcome's number, unless it is 0

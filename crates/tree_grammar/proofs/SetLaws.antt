@@ -8,8 +8,8 @@ use Rattle.rational.specs.Rational.{ℚ, zero_ℚ}
 use Rattle.rational.proofs.PartLemmas.{whole-num}
 use Rattle.game_core.specs.declared.tree.Action.{Action}
 use Rattle.file_parts.specs.Parts.{whole_number, optional_text}
-use Rattle.file_parts.specs.Reading.{left_at, right_at, optional_text_at, texts_at, opens, count_at}
-use Rattle.file_parts.proofs.TokenLaws.{left_is, right_is, optional_text_is, passes_le, le_passes, count_is, count_again}
+use Rattle.file_parts.specs.Reading.{opening_brace_at, closing_brace_at, optional_text_at, texts_at, opens, count_at}
+use Rattle.file_parts.proofs.TokenLaws.{opening_brace_is, closing_brace_is, optional_text_is, passes_le, le_passes, count_is, count_again}
 use Rattle.written_trees.specs.Written.{SetUse}
 use Rattle.written_trees.specs.Described.{IsActionOf, IsActionList}
 use Rattle.tree_grammar.specs.TreeFile.{action_tokens, AreActions, IsSetPart}
@@ -109,9 +109,9 @@ actions_again (Some i) actions rest h = own_actions_again i actions rest (recurs
 -- what closes a list stands after at least one action
 pub closed_is : (count : ℕ) (tokens rest : List Token) → closed_at count tokens ≡ Some rest → (1 ≤ count) × (tokens ≡ Right ∷ rest)
 closed_is count tokens rest e =
-    let a = bind_some (right_at tokens) _ rest e in
+    let a = bind_some (closing_brace_at tokens) _ rest e in
     let p = cond_some (nat_le 1 count) a.0 rest a.2 in
-    (passes_le 1 count p.0, right_is tokens a.0 a.1 ∙ ap (λ (r : List Token). Right ∷ r) p.1)
+    (passes_le 1 count p.0, closing_brace_is tokens a.0 a.1 ∙ ap (λ (r : List Token). Right ∷ r) p.1)
 
 -- the tokens of a list
 abbrev pub list_tokens : Option ℕ → List Action → List Token
@@ -129,13 +129,13 @@ BeginsWithList owner tokens x = IsActionList owner x.0 × (tokens ≡ list_token
 action_list_is : (owner : Option ℕ) (tokens : List Token) (x : List Action × List Token) → action_list_at owner tokens ≡ Some x → BeginsWithList owner tokens x
 unfolding action_list_at
 action_list_is owner tokens x e =
-    let a = bind_some (left_at tokens) _ x e in
+    let a = bind_some (opening_brace_at tokens) _ x e in
     let b = bind_some (actions_at owner a.0) _ x a.2 in
     let c = bind_some (closed_at (length b.0.0) b.0.1) _ x b.2 in
     let some = closed_is (length b.0.0) b.0.1 c.0 c.1 in
     let actions = actions_are owner a.0 b.0 b.1 in
     let inner : a.0 ≡ flat_map (action_tokens owner) b.0.0 ++ (Right ∷ c.0) = actions.1 ∙ ap (λ (r : List Token). flat_map (action_tokens owner) b.0.0 ++ r) some.1 in
-    let all : tokens ≡ list_tokens owner b.0.0 ++ c.0 = left_is tokens a.0 a.1 ∙ ap (λ (r : List Token). Left ∷ r) inner ∙ sym (list_and owner b.0.0 c.0) in
+    let all : tokens ≡ list_tokens owner b.0.0 ++ c.0 = opening_brace_is tokens a.0 a.1 ∙ ap (λ (r : List Token). Left ∷ r) inner ∙ sym (list_and owner b.0.0 c.0) in
     let is : IsActionList owner b.0.0 = record { some_action = some.0; are_of_owner = actions.0 } in
     subst (BeginsWithList owner tokens) (same_Some _ _ c.2) (is, all)
 

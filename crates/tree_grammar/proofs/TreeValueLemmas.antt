@@ -10,7 +10,7 @@ use Rattle.frac128.specs.declared.steps.Op.TheVariants.{Add}
 use Rattle.game_core.specs.declared.tree.Action.{Action}
 use Rattle.game_core.specs.declared.token.Token.{Token}
 use Rattle.game_core.specs.declared.token.Token.TheVariants.{Left, Text, Number}
-use Rattle.file_parts.specs.Reading.{left_at, right_at, number_at, whole_at, optional_text_at, payoff_start, payoff_at, texts_at, count_at}
+use Rattle.file_parts.specs.Reading.{opening_brace_at, closing_brace_at, number_at, whole_at, optional_text_at, payoff_start, payoff_at, texts_at, count_at}
 use Rattle.file_parts.proofs.ValueLemmas.{payoffs_at, value, value_wanted, value_passed, value_chain, value_if, value_each}
 use Rattle.file_parts.specs.Parsing.{passed, parse_each}
 use Rattle.file_parts.proofs.TokenReaderLemmas.{some_or_none}
@@ -114,11 +114,11 @@ value_all_repeated owner (action ∷ actions) tokens =
     value_chain (parse_repeated owner action tokens) (repeated_at owner action tokens >>= mark) _ (λ x. all_repeated_at owner actions x.1 >>= mark) (value_repeated owner action tokens) (λ x. value_all_repeated owner actions x.1)
     ∙ marked_then (repeated_at owner action tokens) (λ rest. all_repeated_at owner actions rest >>= mark) ∙ sym (both_marks (repeated_at owner action tokens) (all_repeated_at owner actions))
 
-value_repeated_list : (owner : Option ℕ) (actions : List Action) (inner : List Token) → value (parse_repeated_list owner actions (Left ∷ inner)) ≡ ((all_repeated_at owner actions inner >>= right_at) >>= mark)
+value_repeated_list : (owner : Option ℕ) (actions : List Action) (inner : List Token) → value (parse_repeated_list owner actions (Left ∷ inner)) ≡ ((all_repeated_at owner actions inner >>= closing_brace_at) >>= mark)
 unfolding parse_repeated_list
 value_repeated_list owner actions inner =
-    value_chain (parse_all_repeated owner actions inner) (all_repeated_at owner actions inner >>= mark) _ (λ x. right_at x.1 >>= mark) (value_all_repeated owner actions inner) (λ x. value_mark (if has_text x.1 then SetMismatch else Node) x.1 (right_at x.1))
-    ∙ marked_then (all_repeated_at owner actions inner) (λ rest. right_at rest >>= mark) ∙ sym (both_marks (all_repeated_at owner actions inner) right_at)
+    value_chain (parse_all_repeated owner actions inner) (all_repeated_at owner actions inner >>= mark) _ (λ x. closing_brace_at x.1 >>= mark) (value_all_repeated owner actions inner) (λ x. value_mark (if has_text x.1 then SetMismatch else Node) x.1 (closing_brace_at x.1))
+    ∙ marked_then (all_repeated_at owner actions inner) (λ rest. closing_brace_at rest >>= mark) ∙ sym (both_marks (all_repeated_at owner actions inner) closing_brace_at)
 
 pub value_later_list : (owner : Option ℕ) (actions : List Action) (tokens : List Token) → IsActionList owner actions → value (parse_later_list owner actions tokens) ≡ (later_list_at owner actions tokens >>= mark)
 value_later_list owner actions (Left ∷ inner) h = value_repeated_list owner actions inner ∙ ap (λ (o : Option (List Token)). o >>= mark) (sym (later_list_is owner actions (Left ∷ inner) inner h refl))
@@ -197,9 +197,9 @@ value_set k sets owner tokens all = elim (some_or_none (count_at tokens)) [
 pub value_first_payoffs : (players : ℕ) (tokens : List Token) → value (parse_first_payoffs players tokens) ≡ payoff_list_at players tokens
 unfolding parse_first_payoffs payoff_list_at
 value_first_payoffs players tokens =
-    value_passed OutcomeMismatch tokens (left_at tokens) _ _ (λ inner.
+    value_passed OutcomeMismatch tokens (opening_brace_at tokens) _ _ (λ inner.
     value_chain (parse_each parse_payoff 0 players inner) (payoffs_at players inner) _ _ (value_each parse_payoff payoff_at (λ i rest. value_wanted (if closes (payoff_start i rest) then OutcomeMismatch else Node) (payoff_start i rest) (number_at (payoff_start i rest))) 0 players inner) (λ x.
-    value_passed (if has_number x.1 then OutcomeMismatch else Node) x.1 (right_at x.1) _ _ (λ rest. refl)))
+    value_passed (if has_number x.1 then OutcomeMismatch else Node) x.1 (closing_brace_at x.1) _ _ (λ rest. refl)))
 
 value_same_payoffs : (i : ℕ) (payoffs : List ℚ) (tokens : List Token) → value (parse_same_payoffs i payoffs tokens) ≡ (payoffs_repeated_at i payoffs tokens >>= mark)
 unfolding parse_same_payoff
@@ -212,11 +212,11 @@ value_same_payoffs i (payoff ∷ payoffs) tokens = elim (some_or_none (number_at
   | inr none ↦ rw none refl
 ]
 
-value_repeated_payoffs : (payoffs : List ℚ) (inner : List Token) → value (parse_repeated_payoffs payoffs (Left ∷ inner)) ≡ ((payoffs_repeated_at 0 payoffs inner >>= right_at) >>= mark)
+value_repeated_payoffs : (payoffs : List ℚ) (inner : List Token) → value (parse_repeated_payoffs payoffs (Left ∷ inner)) ≡ ((payoffs_repeated_at 0 payoffs inner >>= closing_brace_at) >>= mark)
 unfolding parse_repeated_payoffs
 value_repeated_payoffs payoffs inner =
-    value_chain (parse_same_payoffs 0 payoffs inner) (payoffs_repeated_at 0 payoffs inner >>= mark) _ (λ x. right_at x.1 >>= mark) (value_same_payoffs 0 payoffs inner) (λ x. value_mark (if has_number x.1 then OutcomeMismatch else Node) x.1 (right_at x.1))
-    ∙ marked_then (payoffs_repeated_at 0 payoffs inner) (λ rest. right_at rest >>= mark) ∙ sym (both_marks (payoffs_repeated_at 0 payoffs inner) right_at)
+    value_chain (parse_same_payoffs 0 payoffs inner) (payoffs_repeated_at 0 payoffs inner >>= mark) _ (λ x. closing_brace_at x.1 >>= mark) (value_same_payoffs 0 payoffs inner) (λ x. value_mark (if has_number x.1 then OutcomeMismatch else Node) x.1 (closing_brace_at x.1))
+    ∙ marked_then (payoffs_repeated_at 0 payoffs inner) (λ rest. closing_brace_at rest >>= mark) ∙ sym (both_marks (payoffs_repeated_at 0 payoffs inner) closing_brace_at)
 
 pub value_later_payoffs : (payoffs : List ℚ) (tokens : List Token) → value (parse_later_payoffs payoffs tokens) ≡ (later_payoffs_at (length payoffs) payoffs tokens >>= mark)
 unfolding later_payoffs_at

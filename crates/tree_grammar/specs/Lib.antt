@@ -1,5 +1,3 @@
-pub mod FaultKinds
-pub mod TreeFaults
 pub mod TreeFile
 pub mod TreeParsing
 pub mod TreePieces

@@ -15,7 +15,7 @@ use Rattle.game_core.specs.declared.tree.Kind.TheVariants.{End}
 use Rattle.game_core.specs.Tree.{GameTree, kind_of_owner}
 use Rattle.game_core.specs.declared.token.Token.{Token}
 use Rattle.game_core.specs.declared.token.Token.TheVariants.{Right, Text, Number}
-use Rattle.file_parts.specs.Reading.{left_at, right_at, text_at, word_at, number_at, after_text, whole_at, optional_text_at, texts_at, payoff_start, opens, ends, count_at}
+use Rattle.file_parts.specs.Reading.{opening_brace_at, closing_brace_at, text_at, word_at, number_at, after_text, whole_at, optional_text_at, texts_at, payoff_start, opens, ends, count_at}
 use Rattle.file_parts.specs.Parsing.{Parsed, ◌>>=◌, wanted, passed, parse_each, parse_names, parse_title}
 use Rattle.written_trees.specs.Written.{SetUse, OutcomeUse}
 use Rattle.written_trees.specs.Building.{PartialTree, PartialSet, PartialOutcome, Branching, root_alone, tree_so_far, UsedSet, with_parts, passed as limit_passed, set_place, outcome_place, add_test, new_set, used_set, new_outcome, used_outcome}
@@ -88,7 +88,7 @@ parse_list_of (Some i) set tokens = parse_own_list tokens
 -- a first list of actions
 unfoldable pub parse_first_list : Option ℕ → ℕ → List Token → Parsed EfgKind (List Action)
 parse_first_list owner set tokens = do
-  inner ← passed SetMismatch tokens (left_at tokens)
+  inner ← passed SetMismatch tokens (opening_brace_at tokens)
   parse_list_of owner set inner.1
 
 -- a probability that repeats this one
@@ -117,9 +117,9 @@ parse_all_repeated owner (action ∷ actions) tokens = do
 -- a later list of actions that repeats these
 unfoldable pub parse_repeated_list : Option ℕ → List Action → List Token → Parsed EfgKind (Unit {0})
 parse_repeated_list owner actions tokens = do
-  inner ← passed Node tokens (left_at tokens)
+  inner ← passed Node tokens (opening_brace_at tokens)
   following ← parse_all_repeated owner actions inner.1
-  passed (if has_text following.1 then SetMismatch else Node) following.1 (right_at following.1)
+  passed (if has_text following.1 then SetMismatch else Node) following.1 (closing_brace_at following.1)
 
 -- a list that may be left out
 abbrev pub parse_optional : (List Token → Parsed EfgKind (Unit {0})) → List Token → Parsed EfgKind (Unit {0})
@@ -163,12 +163,12 @@ parse_payoff index tokens = wanted (if closes (payoff_start index tokens) then O
 
 -- the brace that closes payoffs
 abbrev pub parse_payoffs_end : List Token → Parsed EfgKind (Unit {0})
-parse_payoffs_end tokens = passed (if has_number tokens then OutcomeMismatch else Node) tokens (right_at tokens)
+parse_payoffs_end tokens = passed (if has_number tokens then OutcomeMismatch else Node) tokens (closing_brace_at tokens)
 
 -- payoffs of a first use
 unfoldable pub parse_first_payoffs : ℕ → List Token → Parsed EfgKind (List ℚ)
 parse_first_payoffs players tokens = do
-  inner ← passed OutcomeMismatch tokens (left_at tokens)
+  inner ← passed OutcomeMismatch tokens (opening_brace_at tokens)
   payoffs ← parse_each parse_payoff 0 players inner.1
   rest ← parse_payoffs_end payoffs.1
   Ok (payoffs.0, rest.1)
@@ -189,7 +189,7 @@ parse_same_payoffs index (payoff ∷ payoffs) tokens = do
 -- payoffs of a later use that repeat these
 unfoldable pub parse_repeated_payoffs : List ℚ → List Token → Parsed EfgKind (Unit {0})
 parse_repeated_payoffs payoffs tokens = do
-  inner ← passed Node tokens (left_at tokens)
+  inner ← passed Node tokens (opening_brace_at tokens)
   following ← parse_same_payoffs 0 payoffs inner.1
   parse_payoffs_end following.1
 

@@ -4,11 +4,11 @@ use Rattle.std.specs.Str.{bytes_eq}
 use Rattle.lists.specs.Options.{◌>>=◌}
 use Rattle.game_core.specs.declared.token.Token.{Token}
 use Rattle.game_core.specs.declared.token.Token.TheVariants.{Word}
-use Rattle.file_parts.specs.Reading.{right_at}
+use Rattle.file_parts.specs.Reading.{closing_brace_at}
 
 -- the tokens after the brace that closes so many actions, which are at least one
 abbrev pub closed_at : ℕ → List Token → Option (List Token)
-closed_at count tokens = right_at tokens >>= λ rest. if nat_le 1 count then Some rest else None
+closed_at count tokens = closing_brace_at tokens >>= λ rest. if nat_le 1 count then Some rest else None
 
 -- whether the word of a node comes
 abbrev pub is_node_word : List ℕ → Bool

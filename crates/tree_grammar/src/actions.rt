@@ -10,7 +10,7 @@ ghost use Rattle.tree_grammar.specs.TreeParsing.{own_action, sum_with, parse_cha
 ghost use Rattle.tree_grammar.specs.declared.kinds.EfgKind.TheVariants.{Node, SetMismatch};
 
 use crate::kinds::EfgKind;
-use file_parts::{PartStop, copied, left, number, right, text, unexpected};
+use file_parts::{PartStop, closing_brace, copied, number, opening_brace, text, unexpected};
 use frac128::Frac;
 use game_core::{Action, Spanned};
 use std::alloc::Global;
@@ -83,7 +83,7 @@ fn own_actions(
 fn closed(tokens: &[Spanned], count: usize) -> Result<&[Spanned], PartStop<EfgKind>>
     ensures { Parses (λ rest. (tt, bare rest.now)) result (parse_closed count (bare tokens.now)) }
 {
-    match right(tokens) {
+    match closing_brace(tokens) {
         Some(rest) if count >= 1 => Ok(rest),
         _ => Err(unexpected(EfgKind::Node, tokens)),
     }
@@ -100,7 +100,7 @@ pub fn first_list(
     ensures { Parses (λ x. (x.0.items, bare x.1.now)) result
         (parse_first_list owner set (bare tokens.now)) }
 {
-    let Some(inner) = left(tokens) else {
+    let Some(inner) = opening_brace(tokens) else {
         return Err(unexpected(EfgKind::SetMismatch, tokens));
     };
     match owner {
@@ -142,7 +142,7 @@ fn repeated<'a>(
         (parse_repeated owner action.now (bare tokens.now)) }
 {
     let Some((_, after)) = text(tokens) else {
-        return Err(unexpected(mismatch_or_node(right(tokens).is_some()), tokens));
+        return Err(unexpected(mismatch_or_node(closing_brace(tokens).is_some()), tokens));
     };
     if owner.is_some() {
         return Ok(after);
@@ -181,11 +181,11 @@ pub fn later_list<'a>(
     ensures { Parses (λ rest. (tt, bare rest.now)) result
         (parse_later_list owner actions.now (bare tokens.now)) }
 {
-    let Some(inner) = left(tokens) else {
+    let Some(inner) = opening_brace(tokens) else {
         return Ok(tokens);
     };
     let following = all_repeated(inner, owner, actions)?;
-    match right(following) {
+    match closing_brace(following) {
         Some(rest) => Ok(rest),
         None => Err(unexpected(mismatch_or_node(text(following).is_some()), following)),
     }

@@ -1,18 +1,18 @@
 //! Which tokens stand for which game tree: the grammar of files of trees, the functions that read
-//! them, the faults of tokens that are no file, and the readers of a file's parts.
+//! them, and the readers of a file's parts.
 //!
 //! Callers may rely on: `files_have_one_tree`; `files_are_read`, in both directions; `read_front`,
 //! `player`, `read_set` and `read_outcome` take off the tokens what the reading function of their
 //! part does, or give a `PartStop` with the fault's kind and the tokens left; `Sets` and `Outcomes`
 //! are seen as lists, in the order of first use.
 //! Definitions: `specs::TreeFile` has the grammar, `TreePieces` the words of nodes and the brace after
-//! actions, `TreeParsing` the reading functions, `FaultKinds` and `TreeFaults` the kinds of faults
-//! and where they are, and `UseCodes` how sets and outcomes that are seen so far are stored.
+//! actions, `TreeParsing` the reading functions, and `UseCodes` how sets and outcomes that are seen
+//! so far are stored. What a fault of each kind is stands in `tree_faults`.
 //! Private words: `specs::Uses`, how sets and outcomes are kept.
-//! Lemmas for callers: `proofs::NodesReadLaws`, that what is read as nodes are nodes; `FileLaws`,
-//! that what is read is a file; `FaultLaws` on faults; `ShortRestLemmas`, that the tokens after a
-//! part are short.
-//! A change here touches: `efg_reader`, which reads such files, and what `refusals` says of faults.
+//! Lemmas for callers: `proofs::NodesReadLaws`, that what is read as nodes are nodes; `FileLaws`
+//! and `WholeFileLaws`, that what is read is a file, and that a file is read.
+//! A change here touches: `tree_faults`, `efg_reader`, which reads such files, and what `refusals`
+//! says of faults.
 #![tactic(auto)]
 
 ghost use Rattle.std.specs.Prelude.{◌≡◌, ◌<◌, ◌^◌, List, length, Ok};

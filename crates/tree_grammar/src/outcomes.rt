@@ -14,7 +14,8 @@ ghost use Rattle.written_trees.specs.Building.{finished_outcome};
 use crate::kinds::EfgKind;
 use crate::sets::{optional_name, or_empty};
 use file_parts::{
-    PartStop, label, left, number, optional_text, payoff, payoff_start, right, unexpected,
+    PartStop, closing_brace, label, number, opening_brace, optional_text, payoff, payoff_start,
+    unexpected,
 };
 use frac128::Frac;
 use game_core::{Name, Outcome, Spanned};
@@ -105,14 +106,14 @@ fn no_payoff(tokens: &[Spanned], index: usize) -> PartStop<EfgKind>
         (length (payoff_start index (bare tokens.now))) }
 {
     let start = payoff_start(tokens, index);
-    unexpected(mismatch_or_node(right(start).is_some()), start)
+    unexpected(mismatch_or_node(closing_brace(start).is_some()), start)
 }
 
 // The tokens after the brace that closes payoffs.
 fn closed(tokens: &[Spanned]) -> Result<&[Spanned], PartStop<EfgKind>>
     ensures { Parses (λ rest. (tt, bare rest.now)) result (parse_payoffs_end (bare tokens.now)) }
 {
-    match right(tokens) {
+    match closing_brace(tokens) {
         Some(rest) => Ok(rest),
         None => Err(unexpected(mismatch_or_node(number(tokens).is_some()), tokens)),
     }
@@ -150,7 +151,7 @@ fn first_payoffs(
     ensures { Parses (λ x. (x.0.items, bare x.1.now)) result
         (parse_first_payoffs players (bare tokens.now)) }
 {
-    let Some(inner) = left(tokens) else {
+    let Some(inner) = opening_brace(tokens) else {
         return Err(unexpected(EfgKind::OutcomeMismatch, tokens));
     };
     let (payoffs, following) = payoffs(alloc, inner, players)?;
@@ -186,7 +187,7 @@ fn later_payoffs<'a>(
     ensures { Parses (λ rest. (tt, bare rest.now)) result
         (parse_later_payoffs payoffs.now (bare tokens.now)) }
 {
-    let Some(inner) = left(tokens) else {
+    let Some(inner) = opening_brace(tokens) else {
         return Ok(tokens);
     };
     let following = repeated(inner, payoffs)?;

@@ -15,15 +15,15 @@ use Rattle.verdicts.specs.declared.payoffs.PayoffsStop.TheVariants as payoffs_st
 use Rattle.verdicts.proofs.AlikeBehaviourLemmas.{behaviour_payoffs-alike}
 use Rattle.verdicts.proofs.SameEntryLemmas.{entries-alike}
 use Rattle.sequence_data.specs.Data.{FormData, IsFormData}
-use Rattle.sequence_form.specs.Counts.{problem_rows, size_of_program}
+use Rattle.sequence_data.specs.Sizes.{problem_rows, program_size}
 use Rattle.subgames.specs.MadeCuts.{MadeCut}
-use Rattle.zero_sum_lp.specs.PlanPairs.{PlanPair}
+use Rattle.sequence_data.specs.PlanPairs.{PlanPair}
 use Rattle.refusals.specs.Told.{behaviour_refusal}
 use Rattle.refusals.specs.declared.refusal.Refusal.{Refusal}
+use Rattle.lemke_pivot.specs.Parts.{plans_at}
 use Rattle.two_player_tools.specs.EquilibriumEntries.{AreOfEquilibrium}
-use Rattle.two_player_tools.specs.Lcp.{plans_at}
 use Rattle.two_player_tools.specs.Lp.{Solution, solution, solution_in}
-use Rattle.two_player_tools.specs.Perfect.{cut_entries_in, entries_by, in_subgame, node_payoffs_fit, plans_by, worth_refusal}
+use Rattle.two_player_tools.specs.Perfect.{cut_entries_in, entries_by, in_subgame, entry_payoffs_fit, plans_by, worth_refusal}
 use Rattle.two_player_tools.specs.TwoPlayers.{form_of_tree, rows_by}
 use Rattle.two_player_tools.specs.declared.forms.Method.{Method}
 use Rattle.two_player_tools.specs.declared.forms.Method.TheVariants.{LinearProgram, Complementarity}
@@ -53,7 +53,7 @@ entries_by-single method t laws recalls w =
 -- these are the entries of an equilibrium
 pub entries_by-equilibrium : (method : Method) (t : GameTree) (list : List ℚ) → TreesAreGames → IsGameTree t → entries_by method t (Ok list) → AreOfEquilibrium false (Extensive t) list
 entries_by-equilibrium LinearProgram t list laws w (f, k, (plans, (s, (p, program, (o, optimum, (found, planned, same))), e), told)) =
-    let h : IsSolving f p o found = record { valid = form_in-valid size_of_program false (Extensive t) f laws w k; program = program; optimum = optimum; planned = planned } in
+    let h : IsSolving f p o found = record { valid = form_in-valid program_size false (Extensive t) f laws w k; program = program; optimum = optimum; planned = planned } in
     let are : plans ≡ found = ok_same plans _ e ∙ ap (λ (v : Solution). record { one = v.one; two = v.two }) (ok_same s (solution f o found) same) in
     solved_equilibrium f p o found h false (Extensive t) list laws w k (subst (λ (v : PlanPair). refused_by behaviour_refusal (plan_behaviour t v.one v.two) (Ok list)) are told)
 entries_by-equilibrium Complementarity t list laws w (f, k, (plans, (p, problem, (s, solution, same)), told)) =
@@ -62,8 +62,8 @@ entries_by-equilibrium Complementarity t list laws w (f, k, (plans, (p, problem,
 
 -- ---- cuts
 -- what entries pay
-node_payoffs_fit-single : (t : GameTree) (entries : List ℚ) → TreesAreGames → IsGameTree t → IsSingle (node_payoffs_fit t entries)
-node_payoffs_fit-single t entries laws w one other h k =
+entry_payoffs_fit-single : (t : GameTree) (entries : List ℚ) → TreesAreGames → IsGameTree t → IsSingle (entry_payoffs_fit t entries)
+entry_payoffs_fit-single t entries laws w one other h k =
     let g = game_of_tree t in
     let tree = laws.game_tree t w in
     let alike = entries-alike g h.0 k.0 tree (sym h.1 ∙ k.1) in
@@ -72,9 +72,9 @@ node_payoffs_fit-single t entries laws w one other h k =
 -- the answer in a cut
 pub cut_entries_in-single : (method : Method) (n : ℕ) (cut : MadeCut) → TreesAreGames → RecallsAreSingle → IsGameTree cut.tree → IsSingle (cut_entries_in method n cut)
 cut_entries_in-single method n cut laws recalls w =
-    let paid = λ (entries : List ℚ). by_case (n ≡ 0) (only {E = Refusal} tt) (refused_by (worth_refusal n) (node_payoffs_fit cut.tree entries)) in
+    let paid = λ (entries : List ℚ). by_case (n ≡ 0) (only {E = Refusal} tt) (refused_by (worth_refusal n) (entry_payoffs_fit cut.tree entries)) in
     bind-single (refused_by (in_subgame n cut.nodes) (entries_by method cut.tree)) (λ entries. paid entries >> only entries)
     (refused_by-single (in_subgame n cut.nodes) (entries_by method cut.tree) (entries_by-single method cut.tree laws recalls w))
     (λ entries _. bind-single (paid entries) (λ _. only entries)
-    (by_case-single (n ≡ 0) (only tt) (refused_by (worth_refusal n) (node_payoffs_fit cut.tree entries)) (λ _. only-single tt) (λ _. refused_by-single (worth_refusal n) (node_payoffs_fit cut.tree entries) (node_payoffs_fit-single cut.tree entries laws w)))
+    (by_case-single (n ≡ 0) (only tt) (refused_by (worth_refusal n) (entry_payoffs_fit cut.tree entries)) (λ _. only-single tt) (λ _. refused_by-single (worth_refusal n) (entry_payoffs_fit cut.tree entries) (entry_payoffs_fit-single cut.tree entries laws w)))
     (λ _ _. only-single entries))

@@ -14,11 +14,11 @@ use Rattle.behaviour_profile.specs.Plans.{plan_behaviour}
 use Rattle.behaviour_profile.proofs.PlanStopLemmas.{plan_behaviour-single}
 use Rattle.perfect_recall.specs.Found.{recall_of}
 use Rattle.sequence_form.specs.Forms.{tree_form, table_form}
-use Rattle.sequence_form.specs.declared.counts.Counts.{Counts}
+use Rattle.sequence_data.specs.declared.sizes.Counts.{Counts}
 use Rattle.sequence_form.proofs.FormLemmas.{table_form-single, tree_form-single}
 use Rattle.two_player_tools.specs.Entries.{entries_in, plans_line}
 use Rattle.two_player_tools.specs.GameTypes.{IsGame}
-use Rattle.refusals.specs.Told.{behaviour_refusal, limit_refusal, recall_refusal, sequence_refusal}
+use Rattle.refusals.specs.Told.{behaviour_refusal, recall_refusal, sequence_refusal}
 use Rattle.two_player_tools.specs.StrategicForms.{strategic_form}
 use Rattle.two_player_tools.proofs.StrategicFormLemmas.{strategic_form-single}
 use Rattle.two_player_tools.specs.TwoPlayers.{form_in, form_of_table, form_of_tree, players_of, table_counts, tree_counts, two_players}
@@ -33,19 +33,19 @@ pub two_players-single : (game : Game) → IsSingle (two_players game)
 two_players-single game = refuse_where-single (players_of game ≢ 2) (refusal.NotTwoPlayers (players_of game))
 
 -- ---- the form
-within_rows-single : (rows : ℕ) → IsSingle (refused_by limit_refusal (within what.Rows most_rows rows))
-within_rows-single rows = refused_by-single limit_refusal _ (refuse_where-single (most_rows < rows) (too_large what.Rows most_rows rows))
+within_rows-single : (rows : ℕ) → IsSingle (refused_by refusal.TooLarge (within what.Rows most_rows rows))
+within_rows-single rows = refused_by-single refusal.TooLarge _ (refuse_where-single (most_rows < rows) (too_large what.Rows most_rows rows))
 
 form_of_table-single : (rows : Counts → ℕ) (t : GameTable) → IsSingle (form_of_table rows t)
 form_of_table-single rows t =
-    bind-single (refused_by limit_refusal (within what.Rows most_rows (rows (table_counts t)))) (λ _. refused_by sequence_refusal (table_form t)) (within_rows-single (rows (table_counts t)))
+    bind-single (refused_by refusal.TooLarge (within what.Rows most_rows (rows (table_counts t)))) (λ _. refused_by sequence_refusal (table_form t)) (within_rows-single (rows (table_counts t)))
     (λ _ _. refused_by-single sequence_refusal (table_form t) (table_form-single t))
 
 form_of_tree-single : (rows : Counts → ℕ) (t : GameTree) → IsSingle (recall_of t) → IsSingle (form_of_tree rows t)
 form_of_tree-single rows t single =
-    bind-single (refused_by recall_refusal (recall_of t)) (λ _. refused_by limit_refusal (within what.Rows most_rows (rows (tree_counts t))) >> refused_by sequence_refusal (tree_form t))
+    bind-single (refused_by recall_refusal (recall_of t)) (λ _. refused_by refusal.TooLarge (within what.Rows most_rows (rows (tree_counts t))) >> refused_by sequence_refusal (tree_form t))
     (refused_by-single recall_refusal (recall_of t) single)
-    (λ _ _. bind-single (refused_by limit_refusal (within what.Rows most_rows (rows (tree_counts t)))) (λ _. refused_by sequence_refusal (tree_form t)) (within_rows-single (rows (tree_counts t)))
+    (λ _ _. bind-single (refused_by refusal.TooLarge (within what.Rows most_rows (rows (tree_counts t)))) (λ _. refused_by sequence_refusal (tree_form t)) (within_rows-single (rows (tree_counts t)))
     (λ _ _. refused_by-single sequence_refusal (tree_form t) (tree_form-single t)))
 
 strategic-single : (rows : Counts → ℕ) (game : Game) → IsSingle (strategic_form game >>= form_of_table rows)

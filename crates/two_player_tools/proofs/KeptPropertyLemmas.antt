@@ -15,12 +15,12 @@ use Rattle.sequence_forms.specs.Sides.{sequences}
 use Rattle.sequence_data.specs.Data.{FormData, IsFormData, IsSideData, side_of}
 use Rattle.sequence_data.specs.declared.types.SetRow.{SetRow}
 use Rattle.sequence_form.specs.Forms.{tree_form}
-use Rattle.sequence_form.specs.declared.counts.Counts.{Counts}
+use Rattle.sequence_data.specs.declared.sizes.Counts.{Counts}
 use Rattle.sequence_form.proofs.FormLemmas.{tree_form-two}
 use Rattle.sequence_form.proofs.KeptFormLemmas.{table_form-valid, tree_form-valid}
 use Rattle.zero_sum_lp.specs.FormPrograms.{program_in, with_start}
 use Rattle.zero_sum_lp.specs.Parts.{IsOptimumOf, IsProgram, Program}
-use Rattle.zero_sum_lp.specs.PlanPairs.{PlanPair}
+use Rattle.sequence_data.specs.PlanPairs.{PlanPair}
 use Rattle.zero_sum_lp.specs.PlanStops.{plans_of}
 use Rattle.two_player_tools.specs.GameTypes.{IsGame}
 use Rattle.two_player_tools.specs.TwoPlayers.{form_in}

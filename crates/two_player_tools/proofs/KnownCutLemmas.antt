@@ -29,7 +29,7 @@ use Rattle.verdicts.proofs.AlikeBehaviourLemmas.{AreAlike, tree_entries-alike, v
 use Rattle.refusals.specs.declared.refusal.Refusal.{Refusal}
 use Rattle.refusals.specs.declared.refusal.Refusal.TheVariants as refusal
 use Rattle.two_player_tools.specs.KnownCuts.{AreKeptTo, AreSolvedFrom, IsRoomFor, behaviour_in, lists_of, worth_in}
-use Rattle.two_player_tools.specs.Perfect.{IsSolvedAt, IsStoppedAt, cut_entries_in, entries_by, in_subgame, node_payoffs_fit, perfect_in, worth_refusal}
+use Rattle.two_player_tools.specs.Perfect.{IsSolvedAt, IsStoppedAt, cut_entries_in, entries_by, in_subgame, entry_payoffs_fit, perfect_in, worth_refusal}
 use Rattle.two_player_tools.specs.declared.forms.Method.{Method}
 use Rattle.two_player_tools.specs.declared.perfect.Known.{Known}
 
@@ -268,12 +268,12 @@ cut-unsolved method n cut r (inl memory) = inl (ap (in_subgame n cut.nodes) memo
 cut-unsolved method n cut r (inr h) = inr (inl (r, h, refl))
 
 -- where it is not computed what a cut is worth, that is told
-pub cut-unpaid : (method : Method) (n : ℕ) (cut : MadeCut) (entries : List ℚ) (r : Refusal) → entries_by method cut.tree (Ok entries) → n ≢ 0 → Gives refusal.Memory (refused_by (worth_refusal n) (node_payoffs_fit cut.tree entries)) (Err r) → Gives refusal.Memory (cut_entries_in method n cut) (Err r)
+pub cut-unpaid : (method : Method) (n : ℕ) (cut : MadeCut) (entries : List ℚ) (r : Refusal) → entries_by method cut.tree (Ok entries) → n ≢ 0 → Gives refusal.Memory (refused_by (worth_refusal n) (entry_payoffs_fit cut.tree entries)) (Err r) → Gives refusal.Memory (cut_entries_in method n cut) (Err r)
 cut-unpaid method n cut entries r h other (inl memory) = inl memory
 cut-unpaid method n cut entries r h other (inr g) = inr (inr (entries, h, inl (inr (other, g))))
 
 -- a cut is solved
-pub cut-done : (method : Method) (n : ℕ) (cut : MadeCut) (entries : List ℚ) → entries_by method cut.tree (Ok entries) → (n ≡ 0) ⊎ ((n ≢ 0) × node_payoffs_fit cut.tree entries (Ok tt)) → cut_entries_in method n cut (Ok entries)
+pub cut-done : (method : Method) (n : ℕ) (cut : MadeCut) (entries : List ℚ) → entries_by method cut.tree (Ok entries) → (n ≡ 0) ⊎ ((n ≢ 0) × entry_payoffs_fit cut.tree entries (Ok tt)) → cut_entries_in method n cut (Ok entries)
 cut-done method n cut entries h (inl root) = (entries, h, (tt, inl (root, refl), refl))
 cut-done method n cut entries h (inr later) = (entries, h, (tt, inr (later.0, later.1), refl))
 

@@ -10,10 +10,9 @@ use Rattle.sequence_forms.specs.Sides.{sequences}
 use Rattle.lemke_pivot.specs.Problems.{Costs, costs_of, at_p, at_p', at_q, at_q'}
 use Rattle.sequence_data.specs.Data.{side_of}
 use Rattle.rational.specs.Sum.{entry_at}
-use Rattle.zero_sum_lp.specs.PlanPairs.{PlanPair}
-use Rattle.lemke_pivot.specs.Parts.{Problem, plan_one, plan_two, z_values}
+use Rattle.sequence_data.specs.PlanPairs.{PlanPair}
+use Rattle.lemke_pivot.specs.Parts.{Problem, plan_one, plan_two, z_values, plans_at}
 use Rattle.lemke_pivot.specs.SolutionLaws.{SolvesForm}
-use Rattle.two_player_tools.specs.Lcp.{plans_at}
 
 -- plans with prices that solve the problem of a form
 pub record HavePrices (f : SequenceForm) (greatest_row greatest_column : ℚ) (plans : PlanPair) : Type 0 where

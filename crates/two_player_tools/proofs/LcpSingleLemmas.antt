@@ -4,16 +4,17 @@ use Rattle.answers.specs.Answers.{IsSingle, ◌>>=◌, only, refused_by}
 use Rattle.answers.proofs.AnswerLemmas.{bind-single, only-single, refused_by-single}
 use Rattle.game_core.specs.declared.game.Game.{Game}
 use Rattle.sequence_data.specs.Data.{FormData, IsFormData}
-use Rattle.sequence_form.specs.Counts.{problem_rows}
-use Rattle.zero_sum_lp.specs.PlanPairs.{PlanPair}
+use Rattle.sequence_data.specs.Sizes.{problem_rows}
+use Rattle.sequence_data.specs.PlanPairs.{PlanPair}
 use Rattle.lemke_pivot.specs.Ends.{solved_in}
 use Rattle.lemke_pivot.specs.FormProblems.{problem_in}
 use Rattle.lemke_pivot.proofs.FormProblemLemmas.{problems_of_forms}
 use Rattle.lemke_pivot.proofs.PathEndLemmas.{ends_same}
 use Rattle.lemke_pivot.proofs.ProblemAnswerLemmas.{problems_single}
+use Rattle.lemke_pivot.specs.Parts.{plans_at}
 use Rattle.two_player_tools.specs.Entries.{plans_line}
 use Rattle.two_player_tools.specs.GameTypes.{IsGame}
-use Rattle.two_player_tools.specs.Lcp.{equilibrium_in, lcp, plans_at}
+use Rattle.two_player_tools.specs.Lcp.{equilibrium_in, lcp}
 use Rattle.refusals.specs.Told.{pivot_refusal, problem_refusal}
 use Rattle.two_player_tools.specs.TwoPlayers.{form_in, two_players}
 use Rattle.two_player_tools.proofs.FormSingleLemmas.{RecallsAreSingle, form_in-single, plans_line-single, two_players-single}

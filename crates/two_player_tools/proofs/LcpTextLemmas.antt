@@ -17,19 +17,19 @@ use Rattle.sequence_forms.proofs.EndLemmas.{solutions_on_tables, solutions_on_tr
 use Rattle.sequence_data.specs.Data.{FormData, IsFormData, SideData, form, side_of}
 use Rattle.rational.specs.Rational.{ℚ}
 use Rattle.rational.specs.Sum.{entry_at}
-use Rattle.sequence_form.specs.Counts.{problem_rows}
+use Rattle.sequence_data.specs.Sizes.{problem_rows}
 use Rattle.sequence_form.specs.Forms.{table_form, tree_form}
 use Rattle.sequence_form.specs.Laws.{count_of_columns, count_of_rows}
 use Rattle.sequence_form.proofs.FormLemmas.{tree_form-is}
 use Rattle.sequence_form.proofs.Laws.{table_stands, tree_stands}
-use Rattle.zero_sum_lp.specs.PlanPairs.{PlanPair}
+use Rattle.sequence_data.specs.PlanPairs.{PlanPair}
 use Rattle.lemke_pivot.specs.Ends.{IsSolutionOf}
 use Rattle.lemke_pivot.specs.FormProblems.{problem_in, with_start}
-use Rattle.lemke_pivot.specs.Parts.{IsProblem, IsProblemOfForm, Problem, plan_one, plan_two}
+use Rattle.lemke_pivot.specs.Parts.{IsProblem, IsProblemOfForm, Problem, plan_one, plan_two, plans_at}
 use Rattle.lemke_pivot.proofs.FormProblemLemmas.{problems_of_forms}
 use Rattle.lemke_pivot.proofs.PathStartLemmas.{solves_the_form}
 use Rattle.two_player_tools.specs.GameTypes.{IsGame}
-use Rattle.two_player_tools.specs.Lcp.{lcp, plans_at}
+use Rattle.two_player_tools.specs.Lcp.{lcp}
 use Rattle.two_player_tools.specs.Entries.{entries_in}
 use Rattle.two_player_tools.specs.EquilibriumEntries.{AreOfEquilibrium}
 use Rattle.two_player_tools.specs.LcpLaws.{IsEquilibriumText}
@@ -80,7 +80,7 @@ module _ (f : FormData) (p s : Problem) (h : IsPivoting f p s) where
   on_tree t before laws w recall k =
       solutions_on_trees (game_of_tree t) (form f) f.greatest_one f.greatest_two (entry_at (plans_at s).one) (entry_at (plans_at s).two) solved.P solved.P' solved.Q solved.Q' (two_who_recall t f before laws w recall k) (tree_stands (game_of_tree t) f (tree_form-is t f k)).alike solved.solves
 
-  weighted : HaveAllWeights f (plans_at s)
+  pub weighted : HaveAllWeights f (plans_at s)
   weighted = record {
     one_has_all = length-listed (sequences (side_of s.first)) (plan_one s) ∙ sym first-count;
     two_has_all = length-listed (sequences (side_of s.second)) (plan_two s) ∙ sym second-count;

@@ -7,7 +7,7 @@ use Rattle.frac128.specs.declared.steps.Op.TheVariants.{Add}
 use Rattle.game_theory.specs.Lines.{line_text}
 use Rattle.game_core.specs.declared.game.Game.{Game}
 use Rattle.sequence_data.specs.Data.{FormData, IsFormData}
-use Rattle.sequence_form.specs.Counts.{size_of_program}
+use Rattle.sequence_data.specs.Sizes.{program_size}
 use Rattle.zero_sum_lp.specs.Ends.{optimum_in}
 use Rattle.zero_sum_lp.specs.FormPrograms.{program_in}
 use Rattle.zero_sum_lp.specs.Parts.{IsOptimumOf, IsProgram, Program}
@@ -54,7 +54,7 @@ solution_text-single strategic prices game f s =
 
 pub lp-single : (strategic prices : Bool) (game : Game) → TreesAreGames → RecallsAreSingle → IsGame game → IsSingle (lp strategic prices game)
 lp-single strategic prices game laws recalls w =
-    bind-single (two_players game) (λ _. form_in size_of_program strategic game >>= λ f. (solution_in f >>= λ s. solution_text strategic prices game f s))
+    bind-single (two_players game) (λ _. form_in program_size strategic game >>= λ f. (solution_in f >>= λ s. solution_text strategic prices game f s))
     (two_players-single game)
-    (λ _ _. bind-single (form_in size_of_program strategic game) (λ f. solution_in f >>= λ s. solution_text strategic prices game f s) (form_in-single size_of_program strategic game recalls w)
-    (λ f k. bind-single (solution_in f) (λ s. solution_text strategic prices game f s) (solution_in-single f (form_in-valid size_of_program strategic game f laws w k)) (λ s _. solution_text-single strategic prices game f s)))
+    (λ _ _. bind-single (form_in program_size strategic game) (λ f. solution_in f >>= λ s. solution_text strategic prices game f s) (form_in-single program_size strategic game recalls w)
+    (λ f k. bind-single (solution_in f) (λ s. solution_text strategic prices game f s) (solution_in-single f (form_in-valid program_size strategic game f laws w k)) (λ s _. solution_text-single strategic prices game f s)))

@@ -15,14 +15,14 @@ use Rattle.sequence_forms.specs.Sides.{sequences}
 use Rattle.sequence_data.specs.Data.{FormData, IsFormData, SideData, form, side_of}
 use Rattle.rational.specs.Sum.{entry_at}
 use Rattle.sequence_data.specs.declared.types.Leaf.{Leaf}
-use Rattle.sequence_form.specs.Counts.{size_of_program}
+use Rattle.sequence_data.specs.Sizes.{program_size}
 use Rattle.sequence_form.specs.Forms.{profile_leaf, table_form, tree_form}
 use Rattle.sequence_form.specs.Laws.{count_of_columns, count_of_rows}
 use Rattle.sequence_form.specs.Paths.{leaf_at}
 use Rattle.sequence_form.proofs.FormLemmas.{tree_form-is}
 use Rattle.sequence_form.proofs.Laws.{table_stands, tree_stands}
 use Rattle.zero_sum_lp.specs.Parts.{IsProgram, Program, first_prices, first_raw, second_prices, second_raw}
-use Rattle.zero_sum_lp.specs.PlanPairs.{PlanPair}
+use Rattle.sequence_data.specs.PlanPairs.{PlanPair}
 use Rattle.zero_sum_lp.specs.PlanStops.{IsRaisedPlan, IsTrimmedPlan, plan_in}
 use Rattle.zero_sum_lp.specs.ValueLaws.{IsProgramOfForm}
 use Rattle.zero_sum_lp.proofs.FormLaws.{programs_of_forms}
@@ -86,11 +86,11 @@ module _ (f : FormData) (p o : Program) (plans : PlanPair) (h : IsSolving f p o 
     two_has_all = ap (λ (v : PlanPair). length v.two) are ∙ plan-long (IsTrimmedPlan (side_of o.second) (second_raw o)) _ pair.two h.planned.2.1 (λ plan is. is.0) ∙ ap (λ (d : SideData). sequences (side_of d)) (second-same f p o plans h) ∙ sym h.valid.second_is.sequences_are;
   }
 
-  pub equilibrium : (strategic : Bool) (game : Game) (list : List ℚ) → TreesAreGames → IsGame game → form_in size_of_program strategic game (Ok f) → entries_in strategic game plans.one plans.two (Ok list) → AreOfEquilibrium strategic game list
+  pub equilibrium : (strategic : Bool) (game : Game) (list : List ℚ) → TreesAreGames → IsGame game → form_in program_size strategic game (Ok f) → entries_in strategic game plans.one plans.two (Ok list) → AreOfEquilibrium strategic game list
   equilibrium strategic game list laws w k e =
-      own_entries size_of_program f plans h.valid weighted (λ t valid is. (on_table t valid is).equilibrium) (λ t before valid recall is. (on_tree t before laws valid recall is).equilibrium) strategic game list w k e
+      own_entries program_size f plans h.valid weighted (λ t valid is. (on_table t valid is).equilibrium) (λ t before valid recall is. (on_tree t before laws valid recall is).equilibrium) strategic game list w k e
 
-  holds : (strategic : Bool) (game : Game) → TreesAreGames → IsGame game → form_in size_of_program strategic game (Ok f) → HoldsOn strategic game (solution f o plans)
+  holds : (strategic : Bool) (game : Game) → TreesAreGames → IsGame game → form_in program_size strategic game (Ok f) → HoldsOn strategic game (solution f o plans)
   holds true (Strategic t) laws w k = (k.0, k.1, on_table k.0 (strategic_form-table (Strategic t) k.0 w k.1) k.2.2)
   holds false (Strategic t) laws w k = (k.0, k.1, on_table k.0 (strategic_form-table (Strategic t) k.0 w k.1) k.2.2)
   holds true (Extensive t) laws w k = (k.0, k.1, on_table k.0 (strategic_form-table (Extensive t) k.0 w k.1) k.2.2)
@@ -101,7 +101,7 @@ lines_are : (prices : Bool) (f : FormData) (s : Solution) (lines : List ℕ) →
 lines_are false f s lines e = ok_same lines [] e
 lines_are true f s lines h = ok_same lines (prices_text f s) h.2
 
-solved_text : (strategic prices : Bool) (game : Game) (text : List ℕ) (f : FormData) (p o : Program) (plans : PlanPair) (s : Solution) → TreesAreGames → IsGame game → form_in size_of_program strategic game (Ok f) → IsSolving f p o plans → s ≡ solution f o plans
+solved_text : (strategic prices : Bool) (game : Game) (text : List ℕ) (f : FormData) (p o : Program) (plans : PlanPair) (s : Solution) → TreesAreGames → IsGame game → form_in program_size strategic game (Ok f) → IsSolving f p o plans → s ≡ solution f o plans
     → solution_text strategic prices game f s (Ok text) → IsSolved strategic prices game text
 solved_text strategic prices game text f p o plans s laws w k h same (entries, are_entries, (lines, are_lines, e)) = record {
   form = f;
@@ -120,5 +120,5 @@ solved_text strategic prices game text f p o plans s laws w k h same (entries, a
 -- each text of `lp` is that of a solution
 pub lp_texts : TreesAreGames → (strategic prices : Bool) (game : Game) (text : List ℕ) → IsGame game → lp strategic prices game (Ok text) → IsSolved strategic prices game text
 lp_texts laws strategic prices game text w (_, _, (f, k, (s, (p, program, (o, optimum, (plans, planned, same))), h))) =
-    let valid : IsFormData f = form_in-valid size_of_program strategic game f laws w k in
+    let valid : IsFormData f = form_in-valid program_size strategic game f laws w k in
     solved_text strategic prices game text f p o plans s laws w k (record { valid = valid; program = program; optimum = optimum; planned = planned }) (ok_same s (solution f o plans) same) h

@@ -19,14 +19,14 @@ use Rattle.sequence_forms.proofs.AlikeFormLemmas.{counts}
 use Rattle.sequence_data.specs.Data.{FormData, IsFormData, side_of}
 use Rattle.sequence_form.specs.Forms.{table_form, tree_form}
 use Rattle.sequence_form.specs.Laws.{count_of_columns, count_of_rows}
-use Rattle.sequence_form.specs.declared.counts.Counts.{Counts}
+use Rattle.sequence_data.specs.declared.sizes.Counts.{Counts}
 use Rattle.sequence_form.proofs.Laws.{table_stands}
 use Rattle.behaviour_profile.specs.Plans.{plan_behaviour}
 use Rattle.refusals.specs.Told.{behaviour_refusal}
 use Rattle.refusals.specs.declared.refusal.Refusal.{Refusal}
 use Rattle.answers.specs.Answers.{only, refused_by}
 use Rattle.answers.proofs.AnswerLemmas.{ok_same}
-use Rattle.zero_sum_lp.specs.PlanPairs.{PlanPair}
+use Rattle.sequence_data.specs.PlanPairs.{PlanPair}
 use Rattle.two_player_tools.specs.Entries.{entries_in}
 use Rattle.two_player_tools.specs.EquilibriumEntries.{AreOfEquilibrium}
 use Rattle.two_player_tools.specs.GameTypes.{IsGame}

@@ -7,7 +7,7 @@ use Rattle.rational.specs.Rational.{ℚ}
 use Rattle.game_core.specs.Tree.{GameTree}
 use Rattle.behaviour_profile.specs.Plans.{plan_behaviour}
 use Rattle.sequence_data.specs.Data.{FormData}
-use Rattle.zero_sum_lp.specs.PlanPairs.{PlanPair}
+use Rattle.sequence_data.specs.PlanPairs.{PlanPair}
 use Rattle.refusals.specs.Told.{behaviour_refusal}
 use Rattle.refusals.specs.declared.refusal.Refusal.{Refusal}
 use Rattle.refusals.specs.declared.refusal.Refusal.TheVariants as refusal

@@ -3,26 +3,18 @@
 -- Source: Lemke 1965; Koller, Megiddo and von Stengel 1996.
 use Rattle.std.specs.Prelude.{ℕ, Bool, List}
 use Rattle.answers.specs.Answers.{Answer, only, ◌>>=◌, ◌>>◌, refused_by}
-use Rattle.game_theory.specs.Lines.{line_text, listed}
+use Rattle.game_theory.specs.Lines.{line_text}
 use Rattle.game_core.specs.declared.game.Game.{Game}
-use Rattle.sequence_forms.specs.Sides.{sequences}
-use Rattle.sequence_data.specs.Data.{FormData, side_of}
-use Rattle.sequence_form.specs.Counts.{problem_rows}
-use Rattle.zero_sum_lp.specs.PlanPairs.{PlanPair}
+use Rattle.sequence_data.specs.Data.{FormData}
+use Rattle.sequence_data.specs.Sizes.{problem_rows}
+use Rattle.sequence_data.specs.PlanPairs.{PlanPair}
 use Rattle.lemke_pivot.specs.Ends.{solved_in}
 use Rattle.lemke_pivot.specs.FormProblems.{problem_in}
-use Rattle.lemke_pivot.specs.Parts.{Problem, plan_one, plan_two}
+use Rattle.lemke_pivot.specs.Parts.{plans_at}
 use Rattle.two_player_tools.specs.Entries.{entries_in}
 use Rattle.refusals.specs.Told.{pivot_refusal, problem_refusal}
 use Rattle.two_player_tools.specs.TwoPlayers.{two_players, form_in}
 use Rattle.refusals.specs.declared.refusal.Refusal.{Refusal}
-
--- the weights of both players' sequences in a solution
-abbrev pub plans_at : Problem → PlanPair
-plans_at s = record {
-  one = listed (sequences (side_of s.first)) (plan_one s);
-  two = listed (sequences (side_of s.second)) (plan_two s);
-}
 
 -- the plans of a form in equilibrium: at the end of its problem's path
 abbrev pub equilibrium_in : FormData → Answer Refusal PlanPair

@@ -8,7 +8,6 @@ pub mod Lp
 pub mod LpLaws
 pub mod Perfect
 pub mod PerfectTexts
-pub mod PlanWeights
 pub mod Solved
 pub mod StrategicForms
 pub mod TwoPlayers

@@ -10,11 +10,11 @@ use Rattle.game_theory.specs.Lines.{line_text, listed}
 use Rattle.game_core.specs.declared.game.Game.{Game}
 use Rattle.ne_printer.specs.Entries.{numbers_line}
 use Rattle.sequence_data.specs.Data.{FormData}
-use Rattle.sequence_form.specs.Counts.{size_of_program}
+use Rattle.sequence_data.specs.Sizes.{program_size}
 use Rattle.zero_sum_lp.specs.Ends.{optimum_in}
 use Rattle.zero_sum_lp.specs.FormPrograms.{program_in}
 use Rattle.zero_sum_lp.specs.Parts.{Program, first_prices, second_prices}
-use Rattle.zero_sum_lp.specs.PlanPairs.{PlanPair}
+use Rattle.sequence_data.specs.PlanPairs.{PlanPair}
 use Rattle.zero_sum_lp.specs.PlanStops.{plans_of}
 use Rattle.two_player_tools.specs.Entries.{entries_in}
 use Rattle.refusals.specs.Told.{pivot_refusal, program_refusal, plan_refusal}
@@ -85,6 +85,6 @@ solution_text strategic prices game f s = do
 abbrev pub lp : Bool → Bool → Game → Answer Refusal (List ℕ)
 lp strategic prices game = do
   two_players game
-  form ← form_in size_of_program strategic game
+  form ← form_in program_size strategic game
   solved ← solution_in form
   solution_text strategic prices game form solved

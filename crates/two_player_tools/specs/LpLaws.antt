@@ -11,7 +11,7 @@ use Rattle.sequence_forms.specs.Prices.{IsValueProof}
 use Rattle.sequence_forms.specs.TableLaws.{AreOptimalOnTable}
 use Rattle.sequence_data.specs.Data.{FormData, form}
 use Rattle.rational.specs.Sum.{entry_at}
-use Rattle.sequence_form.specs.Counts.{size_of_program}
+use Rattle.sequence_data.specs.Sizes.{program_size}
 use Rattle.two_player_tools.specs.Entries.{entries_in}
 use Rattle.two_player_tools.specs.EquilibriumEntries.{AreOfEquilibrium}
 use Rattle.two_player_tools.specs.GameTypes.{IsGame}
@@ -42,7 +42,7 @@ pub record ProvesValue (f : FormData) (s : Solution) : Type 0 where
 -- those of an equilibrium
 pub record IsSolved (strategic prices : Bool) (game : Game) (text : List ℕ) : Type 0 where
   pub form : FormData
-  pub is_form : form_in size_of_program strategic game (Ok form)
+  pub is_form : form_in program_size strategic game (Ok form)
   pub solution : Solution
   pub one_has_all : length solution.one ≡ form.first.sequences
   pub two_has_all : length solution.two ≡ form.second.sequences

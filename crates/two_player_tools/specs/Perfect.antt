@@ -18,10 +18,10 @@ use Rattle.subgames.specs.CutGames.{cut_behaviour}
 use Rattle.subgames.specs.CutTrees.{IsCutAt}
 use Rattle.subgames.specs.MadeCuts.{MadeCut}
 use Rattle.subgames.specs.Roots.{IsSubgameRoot}
-use Rattle.verdicts.specs.BehaviourPayoffs.{behaviour_payoffs_in}
+use Rattle.verdicts.specs.BehaviourPayoffs.{behaviour_payoffs_fit}
 use Rattle.verdicts.specs.declared.payoffs.PayoffsStop.{PayoffsStop}
 use Rattle.verdicts.specs.declared.payoffs.PayoffsStop.TheVariants as payoffs_stop
-use Rattle.zero_sum_lp.specs.PlanPairs.{PlanPair}
+use Rattle.sequence_data.specs.PlanPairs.{PlanPair}
 use Rattle.refusals.specs.Told.{behaviour_refusal, recall_refusal}
 use Rattle.refusals.specs.declared.refusal.Refusal.{Refusal}
 use Rattle.refusals.specs.declared.refusal.Refusal.TheVariants as refusal
@@ -52,8 +52,13 @@ entries_by method t = do
 -- and ends by their numbers in the tree.
 abbrev pub in_subgame : ℕ → (nodes : List ℕ) → Refusal → Refusal
 in_subgame n nodes (refusal.Range place step) = refusal.SubgameRange n place step
-in_subgame n nodes (refusal.NotConstant first second first_sum second_sum) =
-    refusal.NotConstant (slice_index nodes first) (slice_index nodes second) first_sum second_sum
+in_subgame n nodes (refusal.NotConstant sums) =
+    refusal.NotConstant (record {
+      first = slice_index nodes sums.first;
+      second = slice_index nodes sums.second;
+      first_sum = sums.first_sum;
+      second_sum = sums.second_sum;
+    })
 in_subgame n nodes r = r
 
 -- why what node n is worth to the players is not computed
@@ -64,17 +69,17 @@ worth_refusal n payoffs_stop.Memory = refusal.Memory
 
 -- ---- cuts
 -- the steps of what behaviour with these entries pays fit; or the first that does not, with its player
-abbrev pub node_payoffs_fit : GameTree → List ℚ → Answer PayoffsStop (Unit {0})
-node_payoffs_fit t entries answer =
+abbrev pub entry_payoffs_fit : GameTree → List ℚ → Answer PayoffsStop (Unit {0})
+entry_payoffs_fit t entries answer =
     (b : Behaviour) × (entries ≡ tree_entries (game_of_tree t) b)
-    × behaviour_payoffs_in (game_of_tree t) b answer
+    × behaviour_payoffs_fit (game_of_tree t) b answer
 
 -- The entries of the behaviour that a method finds for the cut at node n, which pays each player what
 -- can be computed; at the tree's root that is not asked.
 abbrev pub cut_entries_in : Method → ℕ → MadeCut → Answer Refusal (List ℚ)
 cut_entries_in method n cut = do
   entries ← refused_by (in_subgame n cut.nodes) (entries_by method cut.tree)
-  by_case (n ≡ 0) (only tt) (refused_by (worth_refusal n) (node_payoffs_fit cut.tree entries))
+  by_case (n ≡ 0) (only tt) (refused_by (worth_refusal n) (entry_payoffs_fit cut.tree entries))
   only entries
 
 -- the cut at node n is solved by behaviour b, and to each player the node is worth what this pays there

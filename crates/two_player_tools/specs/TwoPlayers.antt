@@ -11,12 +11,12 @@ use Rattle.game_core.specs.declared.game.Game.TheVariants.{Strategic, Extensive}
 use Rattle.game_core.specs.declared.too_large.What.TheVariants as what
 use Rattle.perfect_recall.specs.Found.{recall_of}
 use Rattle.sequence_data.specs.Data.{FormData}
-use Rattle.sequence_form.specs.Counts.{counts_of, problem_rows, size_of_program}
+use Rattle.sequence_data.specs.Sizes.{counts_of, problem_rows, program_size}
 use Rattle.sequence_form.specs.Forms.{tree_form, table_form}
 use Rattle.sequence_form.specs.Laws.{count_of_rows, count_of_columns}
 use Rattle.sequence_form.specs.Sequences.{tree_side, start_side}
-use Rattle.sequence_form.specs.declared.counts.Counts.{Counts}
-use Rattle.refusals.specs.Told.{limit_refusal, recall_refusal, sequence_refusal}
+use Rattle.sequence_data.specs.declared.sizes.Counts.{Counts}
+use Rattle.refusals.specs.Told.{recall_refusal, sequence_refusal}
 use Rattle.refusals.specs.declared.refusal.Refusal.{Refusal}
 use Rattle.refusals.specs.declared.refusal.Refusal.TheVariants as refusal
 use Rattle.two_player_tools.specs.StrategicForms.{strategic_form}
@@ -35,7 +35,7 @@ two_players game = refuse_where (players_of game ≢ 2) (refusal.NotTwoPlayers (
 -- how many rows a form has by its sizes: of its linear program with the columns, or of its
 -- complementarity problem
 abbrev pub rows_by : Method → Counts → ℕ
-rows_by LinearProgram = size_of_program
+rows_by LinearProgram = program_size
 rows_by Complementarity = problem_rows
 
 -- the sizes of the sequence form of a table
@@ -49,14 +49,14 @@ tree_counts t = counts_of (tree_side (game_of_tree t) 0) (tree_side (game_of_tre
 -- the sequence form of a table, where its problem, whose rows are counted so, is within the limit
 abbrev pub form_of_table : (Counts → ℕ) → GameTable → Answer Refusal FormData
 form_of_table rows t = do
-  refused_by limit_refusal (within what.Rows most_rows (rows (table_counts t)))
+  refused_by refusal.TooLarge (within what.Rows most_rows (rows (table_counts t)))
   refused_by sequence_refusal (table_form t)
 
 -- the sequence form of a tree in which all players recall, where its problem is within the limit
 abbrev pub form_of_tree : (Counts → ℕ) → GameTree → Answer Refusal FormData
 form_of_tree rows t = do
   refused_by recall_refusal (recall_of t)
-  refused_by limit_refusal (within what.Rows most_rows (rows (tree_counts t)))
+  refused_by refusal.TooLarge (within what.Rows most_rows (rows (tree_counts t)))
   refused_by sequence_refusal (tree_form t)
 
 -- The sequence form on which a tool works: that of the game's strategic form; but of a tree its own,

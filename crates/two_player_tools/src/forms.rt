@@ -4,8 +4,7 @@ ghost use Rattle.answers.specs.Answers.{Gives, refuse_where, refused_by};
 ghost use Rattle.game_core.specs.Limits.{most_rows, within};
 ghost use Rattle.game_core.specs.TreeGame.{game_of_tree};
 ghost use Rattle.perfect_recall.specs.Found.{IsRecallOf};
-ghost use Rattle.refusals.specs.Told.{limit_refusal};
-ghost use Rattle.sequence_form.specs.Counts.{AreFew};
+ghost use Rattle.sequence_data.specs.Sizes.{AreFew};
 ghost use Rattle.two_player_tools.specs.TwoPlayers.{players_of, two_players, rows_by, form_of_table, form_of_tree, form_in};
 
 use game_core::{Game, MOST_ROWS, Table, TooLarge, Tree, What};
@@ -66,7 +65,7 @@ fn row_count(method: Method, sizes: &Counts) -> u64
 
 // Refuses a problem with more rows than there may be. Takes no memory.
 fn within_rows(rows: u64) -> Result<(), Refusal>
-    ensures { refused_by limit_refusal (within What.Rows most_rows rows) result }
+    ensures { refused_by Refusal.TooLarge (within What.Rows most_rows rows) result }
 {
     Ok(TooLarge::within(What::Rows, MOST_ROWS, rows)?)
 }

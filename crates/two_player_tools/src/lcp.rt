@@ -1,7 +1,7 @@
 // The tool `lcp`.
 ghost use Rattle.std.specs.Prelude.{◌≡◌, Ok};
 ghost use Rattle.answers.specs.Answers.{Gives, map_ok};
-ghost use Rattle.sequence_form.specs.Counts.{problem_rows};
+ghost use Rattle.sequence_data.specs.Sizes.{problem_rows};
 ghost use Rattle.two_player_tools.specs.Lcp.{lcp};
 ghost use Rattle.two_player_tools.specs.LcpLaws.{LcpTextsAreEquilibria};
 ghost use Rattle.two_player_tools.specs.Perfect.{lcp_tool};
@@ -29,7 +29,7 @@ fn form_text(
     ensures { Gives Refusal.Memory (lcp strategic game.now) (map_ok result (λ text. text.items)) }
 {
     let plans = equilibrium_in(alloc, form)?;
-    plans_line(alloc, strategic, game, form, &plans.one, &plans.two)
+    plans_line(alloc, strategic, game, form, plans.one(), plans.two())
 }
 
 // The line of an equilibrium of a game.

@@ -3,13 +3,13 @@
 //!
 //! Callers may rely on: `lp_text` and `lcp_text` give the text that is defined, or the refusal that
 //! the first failing stage gives; `two_players` refuses other games; `lp_texts_are_solutions` and
-//! `lcp_texts_are_equilibria` say what each text is, and `solutions_are_single` that there is one,
-//! as `strategic_forms_are_single` of the strategic form.
+//! `lcp_texts_are_equilibria` say what each text is, and `solutions_are_single` that there is at most
+//! one answer, as `strategic_forms_are_single` of the strategic form.
 //! Definitions: `specs::StrategicForms` has the strategic form that all tools take; `TwoPlayers` says
 //! which sequence form a tool works on, `Lp` and `Lcp` what each answers, `Entries` the line of two
 //! plans, `Perfect` what they answer of a tree that is solved subgame by subgame; `LpLaws`, `LcpLaws`
 //! and `PerfectTexts` what holds of each text.
-//! Private words: `specs::Solved`, `PlanWeights` and `KnownCuts`, for code between stages.
+//! Private words: `specs::Solved` and `KnownCuts`, for code between stages.
 //! Lemmas for callers: `proofs::StrategicFormLemmas`, `FormSingleLemmas`.
 //! A change here touches: `gambit_tools`, docs/THEOREM.md.
 #![tactic(auto)]
@@ -38,7 +38,7 @@ pub use forms::two_players;
 pub use lcp::{lcp_text, lcp_texts_are_equilibria};
 pub use lp::{lp_text, lp_texts_are_solutions};
 
-/// A game has one strategic form, or one reason why it has none.
+/// A game has at most one answer: its strategic form, or the reason why it has none.
 pub fn strategic_forms_are_single()
     ensures { (game : Game) → IsSingle (strategic_form game) }
 {}

@@ -1,7 +1,7 @@
 // The tool `lp`.
 ghost use Rattle.std.specs.Prelude.{◌≡◌, Ok};
 ghost use Rattle.answers.specs.Answers.{Gives, map_ok};
-ghost use Rattle.sequence_form.specs.Counts.{size_of_program};
+ghost use Rattle.sequence_data.specs.Sizes.{program_size};
 ghost use Rattle.two_player_tools.specs.Entries.{plans_line};
 ghost use Rattle.two_player_tools.specs.Lp.{lp, solution_text};
 ghost use Rattle.two_player_tools.specs.LpLaws.{LpTextsAreSolutions};
@@ -69,7 +69,7 @@ fn form_text(
     form: &SeqForm,
 ) -> Result<Vec<u8>, Refusal>
     requires two { players_of game.now ≡ 2 }
-    requires form { form_in size_of_program strategic game.now (Ok form.now) }
+    requires form { form_in program_size strategic game.now (Ok form.now) }
     ensures { Gives Refusal.Memory (lp strategic prices game.now)
         (map_ok result (λ text. text.items)) }
 {

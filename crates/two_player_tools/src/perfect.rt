@@ -36,7 +36,7 @@ ghost use Rattle.two_player_tools.specs.Perfect.{
   cut_entries_in,
   entries_by,
   in_subgame,
-  node_payoffs_fit,
+  entry_payoffs_fit,
   perfect_in,
   perfect_text,
   worth_refusal,
@@ -58,6 +58,7 @@ use sequence_form::SeqForm;
 use std::alloc::Global;
 use subgames::{Cut, Subgames, sets_stand_in_one_cut};
 use verdicts::{PayoffsStop, behaviour_payoffs};
+use zero_sum_lp::NotConstant;
 
 /// What is known once the cuts at some of the nodes where subgames begin are solved.
 #[derive(Drop)]
@@ -93,7 +94,7 @@ fn pivot_behaviour(alloc: Global, tree: &Tree, form: &SeqForm) -> Result<Behavio
     ensures entries { IfOk result (AreBehaviourEntries tree.now) }
 {
     let plans = equilibrium_in(alloc, form)?;
-    plan_behaviour(alloc, tree, form, &plans.one, &plans.two)
+    plan_behaviour(alloc, tree, form, plans.one(), plans.two())
 }
 
 // The behaviour of a tree that a method finds by the tree's form.
@@ -143,17 +144,11 @@ fn in_subgame(root: u32, nodes: &[u32], refusal: Refusal) -> Refusal
             site,
             unfit,
         },
-        Refusal::NotConstant {
-            first,
-            second,
-            first_sum,
-            second_sum,
-        } => Refusal::NotConstant {
-            first: whole_node(nodes, first),
-            second: whole_node(nodes, second),
-            first_sum,
-            second_sum,
-        },
+        Refusal::NotConstant(sums) => Refusal::NotConstant(NotConstant {
+            first: whole_node(nodes, sums.first),
+            second: whole_node(nodes, sums.second),
+            ..sums
+        }),
         other => other,
     }
 }
@@ -170,7 +165,7 @@ fn payoffs_of(
         behaviour.now ≡ tree_entries t b
         → IfOk result (λ payoffs. payoffs.items ≡ listed t.players (payoff t b)) }
     ensures stops { Gives Refusal.Memory
-        (refused_by (worth_refusal root) (node_payoffs_fit cut.now behaviour.now))
+        (refused_by (worth_refusal root) (entry_payoffs_fit cut.now behaviour.now))
         (map_ok result (λ _. tt)) }
 {
     match behaviour_payoffs(alloc, cut, behaviour) {

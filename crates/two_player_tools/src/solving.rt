@@ -7,11 +7,11 @@ ghost use Rattle.two_player_tools.specs.Solved.{HasSizesOf, solution_of};
 
 use lex_tableau::{PivotCount, UnfitPivot};
 use refusals::Refusal;
-use sequence_form::SeqForm;
+use sequence_form::{Plans, SeqForm};
 use std::alloc::Global;
 use std::marker::Brand;
 use std::sync::ledger::{Blank, Ledger};
-use zero_sum_lp::{Lp, Optimum, Plans, program};
+use zero_sum_lp::{Lp, Optimum, program};
 
 /// A form's solution: the optimum of its program, which has the prices, and both players' plans.
 #[derive(Debug, Drop)]

@@ -30,7 +30,7 @@ use Rattle.frac128.specs.Steps.{step_of, Step}
 use Rattle.frac128.specs.declared.steps.Op.TheVariants.{Add}
 use Rattle.pure_payoffs.specs.Steps.{branch_steps, chance_steps}
 use Rattle.behaviour_profile.proofs.BehaviourEntryLemmas.{entries_at-same}
-use Rattle.verdicts.specs.BehaviourPayoffs.{behaviour_payoffs_in}
+use Rattle.verdicts.specs.BehaviourPayoffs.{behaviour_payoffs_fit}
 use Rattle.verdicts.specs.TreeSteps.{now_node_steps, now_steps_at, now_steps_to}
 use Rattle.verdicts.specs.declared.payoffs.PayoffsStop.{PayoffsStop}
 use Rattle.verdicts.specs.declared.payoffs.PayoffsStop.TheVariants as stops
@@ -109,7 +109,7 @@ module _ (t : Tree) (b other : Behaviour) (w : IsTree t) (alike : AreAlike t b o
     now_steps-alike k l = now_below-alike t.size k l
 
   -- what all players are paid has the same answer
-  pub behaviour_payoffs-alike : (answer : Result (Unit {0}) PayoffsStop) → behaviour_payoffs_in t b answer → behaviour_payoffs_in t other answer
+  pub behaviour_payoffs-alike : (answer : Result (Unit {0}) PayoffsStop) → behaviour_payoffs_fit t b answer → behaviour_payoffs_fit t other answer
   behaviour_payoffs-alike answer h =
       let same : (λ i. now_steps_at t b i 0) ≡ (λ i. now_steps_at t other i 0) = λ j i. now_steps-alike i 0 w.some_node j in
       subst (λ steps. refused_by (λ stop. stops.Range stop.0 stop.1) (all_fit steps (range_with_len 0 t.players)) answer) same h

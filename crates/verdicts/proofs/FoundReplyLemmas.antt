@@ -8,7 +8,7 @@ use Rattle.game_theory.specs.OwnSets.{own_sets}
 use Rattle.game_theory.proofs.OwnSetLemmas.{map-among, own_sets-tell}
 use Rattle.best_replies.specs.Replies.{reply_value, AreBestChoices}
 use Rattle.frac128.specs.Steps.{StepFits}
-use Rattle.verdicts.specs.TreeSides.{AreChosen}
+use Rattle.verdicts.specs.TreeReplies.{AreChosen}
 use Rattle.verdicts.specs.TreeSteps.{player_steps}
 use Rattle.verdicts.specs.TreeVerdicts.{HasNoBetter, IsBetter}
 

@@ -17,7 +17,7 @@ pub mod TreeNowStepLemmas
 pub mod TreeOwnSetLemmas
 pub mod TreeReplyLemmas
 pub mod TreeReplyStepLemmas
-pub mod TreeSidePartLemmas
+pub mod TreeReplyPartLemmas
 pub mod TreeSingleLemmas
 pub mod TreeSumLemmas
 pub mod TreeVerdictLaws

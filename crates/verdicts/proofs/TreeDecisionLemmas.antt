@@ -13,7 +13,7 @@ use Rattle.best_replies.specs.Replies.{action_value}
 use Rattle.best_replies.proofs.FirstGreatestLemmas.{first_greatest-unique, first_greatest-kept, first_greatest-passed}
 use Rattle.best_replies.proofs.WeightLemmas.{step-to}
 use Rattle.frac128.specs.Steps.{StepFits}
-use Rattle.verdicts.specs.TreeSides.{AreDecided, IsComputed}
+use Rattle.verdicts.specs.TreeReplies.{AreDecided, IsComputed}
 use Rattle.verdicts.specs.TreeSteps.{action_steps, decision_steps}
 use Rattle.frac128.proofs.StepPartLemmas.{parts-more}
 

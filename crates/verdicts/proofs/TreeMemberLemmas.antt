@@ -23,7 +23,7 @@ use Rattle.best_replies.specs.Replies.{action_value, reply_value, is_member}
 use Rattle.best_replies.proofs.ReplyValueLemmas.{action_value-by_members}
 use Rattle.best_replies.proofs.SetOrderLemmas.{within-trans, above-le}
 use Rattle.perfect_recall.proofs.MemberLemmas.{AreMembers, members-at}
-use Rattle.verdicts.specs.TreeSides.{AreDecided, OwnSetsFrom, IsComputed}
+use Rattle.verdicts.specs.TreeReplies.{AreDecided, OwnSetsFrom, IsComputed}
 use Rattle.verdicts.specs.TreeSteps.{members, member_child, action_steps, reply_steps, sum_steps}
 use Rattle.verdicts.proofs.TreeSumLemmas.{sum-more}
 

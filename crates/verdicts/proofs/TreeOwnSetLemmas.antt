@@ -13,7 +13,7 @@ use Rattle.game_theory.specs.OwnSets.{own_sets, numbers_with}
 use Rattle.frac128.specs.Steps.{Step, StepFits, IsFirstUnfit}
 use Rattle.frac128.proofs.StepRunLemmas.{first_unfit-more, first_unfit-following}
 use Rattle.game_theory.proofs.IndexLemmas.{numbers_with-last, numbers_with-other}
-use Rattle.verdicts.specs.TreeSides.{AreDecided}
+use Rattle.verdicts.specs.TreeReplies.{AreDecided}
 use Rattle.verdicts.specs.TreeSteps.{decision_steps, decisions}
 
 -- an own set stands between those below it and the later ones

@@ -1,4 +1,4 @@
--- The reply of a player, written set by set; and a player's side before the first decision.
+-- The reply of a player, written set by set; and a player's replies before the first decision.
 use Rattle.std.proofs.Common.{ℕ, ◌+◌, ◌<◌, ◌≡◌, ◌≢◌, inl, inr, Some, List, [], ◌∷◌, ◌++◌, length, map, set, take, sym, ap, ◌∙◌, add-one, arith}
 use Rattle.std.proofs.lemmas.List.{take_more_set, map-append}
 use Rattle.rational.specs.Rational.{ℚ}
@@ -9,7 +9,7 @@ use Rattle.best_replies.specs.Replies.{AreBestChoices}
 use Rattle.best_replies.proofs.WeightLemmas.{step-to}
 use Rattle.game_theory.specs.OwnSets.{numbers_with}
 use Rattle.game_theory.proofs.IndexLemmas.{numbers_with-last, numbers_with-other}
-use Rattle.verdicts.specs.TreeSides.{AreDecided}
+use Rattle.verdicts.specs.TreeReplies.{AreDecided}
 use Rattle.verdicts.specs.TreeWeights.{AreWeights}
 
 -- the choice at one more own set is written

@@ -17,7 +17,7 @@ use Rattle.best_replies.specs.Replies.{reply_value}
 use Rattle.best_replies.proofs.ReplyValueLemmas.{reply_values-recur}
 use Rattle.best_replies.proofs.WeightLemmas.{own_or_not, if_own, if_other}
 use Rattle.frac128.proofs.StepRunLemmas.{first_unfit-more, first_unfit-following, first_unfit-here, one-fits, added-gives, following-gives}
-use Rattle.verdicts.specs.TreeSides.{after_steps_at, after_sum_at}
+use Rattle.verdicts.specs.TreeReplies.{after_steps_at, after_sum_at}
 use Rattle.verdicts.specs.TreeSteps.{child_value, children_steps, children_sum, after_steps, after_sum, own_steps, reply_steps_to, reply_steps}
 use Rattle.verdicts.proofs.TreeDepthLemmas.{told-recurs}
 use Rattle.verdicts.proofs.TreeSumLemmas.{sum_steps-same}

@@ -30,12 +30,12 @@ module _ (t : Tree) (b : Behaviour) (i c s : ℕ) (w : IsTree t) (p : 0 < c) (l 
   weight-kept x o is = (is ∙ sym (weight-own t b i c s w p l e o), subst (All StepFits) (sym (step-is false (if_own t i s false true o))) (All-nil StepFits))
 
   -- after any other it has the factor
-  pub weight-more : (wt prob : ℚ) (r : Result ℚ Unfit) → t.owner s ≢ Some i → wt ≡ weight t b i (t.parent c) → prob ≡ action_probability t b s (t.branch c)
-      → IfOk r (λ f. f ≡ wt *ℚ prob) → OnOk r (MulFits wt prob) → IfErr r (λ u. u ≡ step_of Mul wt prob) → OnErr r (MulFits wt prob → ⊥) → StepsGive (weight_step t b i c) (weight t b i c) r
-  weight-more wt prob r o weight_is prob_is value fits step refused =
-      let prob_of : prob ≡ branch_probability t b c = prob_is ∙ sym (branch-at t b c s e) in
+  pub weight-more : (wt probability : ℚ) (r : Result ℚ Unfit) → t.owner s ≢ Some i → wt ≡ weight t b i (t.parent c) → probability ≡ action_probability t b s (t.branch c)
+      → IfOk r (λ f. f ≡ wt *ℚ probability) → OnOk r (MulFits wt probability) → IfErr r (λ u. u ≡ step_of Mul wt probability) → OnErr r (MulFits wt probability → ⊥) → StepsGive (weight_step t b i c) (weight t b i c) r
+  weight-more wt probability r o weight_is prob_is value fits step refused =
+      let prob_of : probability ≡ branch_probability t b c = prob_is ∙ sym (branch-at t b c s e) in
       let steps : weight_step t b i c ≡ step_of Mul (weight t b i (t.parent c)) (branch_probability t b c) ∷ [] = step-is true (if_other t i s false true o) in
-      rw (steps, weight-other t b i c s w p l e o, ← weight_is, ← prob_of) (product-gives wt prob r value fits step refused)
+      rw (steps, weight-other t b i c s w p l e o, ← weight_is, ← prob_of) (product-gives wt probability r value fits step refused)
 
 -- the weight of the parent is known
 pub weight-read : (t : Tree) (b : Behaviour) (i c k : ℕ) (weights : List ℚ) (d : ℚ) → IsTree t → 0 < c → c < t.size → length weights ≡ t.size → k ≡ t.parent c → AreWeights t b i weights c → get_or weights k d ≡ weight t b i (t.parent c)

@@ -1,4 +1,4 @@
--- What behaviour pays all players of a tree, or why that is not computed. Players count from 0.
+-- Whether the steps of what behaviour pays all players of a tree fit. Players count from 0.
 use Rattle.std.specs.List.{range_with_len}
 use Rattle.answers.specs.Answers.{Answer, IsSingle, refused_by}
 use Rattle.frac128.specs.FirstUnfit.{all_fit}
@@ -9,11 +9,11 @@ use Rattle.verdicts.specs.declared.payoffs.PayoffsStop.{PayoffsStop}
 use Rattle.verdicts.specs.declared.payoffs.PayoffsStop.TheVariants as stops
 
 -- the steps of what behaviour pays all players fit; or the first that does not, with its player
-abbrev pub behaviour_payoffs_in : Tree → Behaviour → Answer PayoffsStop (Unit {0})
-behaviour_payoffs_in t b =
+abbrev pub behaviour_payoffs_fit : Tree → Behaviour → Answer PayoffsStop (Unit {0})
+behaviour_payoffs_fit t b =
     refused_by (λ stop. stops.Range stop.0 stop.1)
     (all_fit (λ i. now_steps_at t b i 0) (range_with_len 0 t.players))
 
--- Behaviour has one answer.
+-- Behaviour has at most one answer.
 abbrev pub BehaviourPayoffsAreSingle : Type 0
-BehaviourPayoffsAreSingle = (t : Tree) (b : Behaviour) → IsSingle (behaviour_payoffs_in t b)
+BehaviourPayoffsAreSingle = (t : Tree) (b : Behaviour) → IsSingle (behaviour_payoffs_fit t b)

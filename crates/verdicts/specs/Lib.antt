@@ -1,9 +1,10 @@
 pub mod BehaviourPayoffs
 pub mod TableChecks
 pub mod TableLaws
-pub mod TreeBoards
+pub mod TableReplies
+pub mod TreeBehaviours
 pub mod TreeScratches
-pub mod TreeSides
+pub mod TreeReplies
 pub mod TreeSteps
 pub mod TreeVerdictLaws
 pub mod TreeVerdicts

@@ -90,7 +90,7 @@ after_sum t b i choice k (Some s) =
     if is_own t i s then child_value t b i choice k (choice s)
     else children_sum t b i choice k s
 
--- a node's own two steps: what its outcome pays by its weight, and the addition of this to the sum
+-- a node's own two steps: its weight times what its outcome pays, and this plus the sum
 abbrev pub own_steps : Tree → Behaviour → ℕ → ℕ → ℚ → List Step
 own_steps t b i k sum =
     step_of Mul (weight t b i k) (t.pays k i) ∷ step_of Add (weight t b i k *ℚ t.pays k i) sum ∷ []

@@ -20,7 +20,7 @@ use Rattle.verdicts.specs.TreeVerdicts.{IsTreeVerdict, tree_verdict}
 abbrev pub AllRecall : GameTree → Type 0
 AllRecall tree = (i : ℕ) → i < length tree.players → HasPerfectRecall (game_of_tree tree) i
 
--- a tree and entries have one verdict and one reply
+-- a tree in which all players recall and entries have at most one verdict, with one reply
 abbrev pub TreeVerdictsAreSingle : Type 0
 TreeVerdictsAreSingle =
     (tree : GameTree) (entries : List ℚ) (verdict other : TreeVerdict) (reply reply' : List ℕ)

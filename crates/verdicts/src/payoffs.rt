@@ -7,13 +7,13 @@ ghost use Rattle.game_theory.specs.TreeEntries.{tree_entries};
 ghost use Rattle.game_core.specs.TreeGame.{game_of_tree};
 ghost use Rattle.verdicts.specs.BehaviourPayoffs.{
   BehaviourPayoffsAreSingle,
-  behaviour_payoffs_in,
+  behaviour_payoffs_fit,
 };
-ghost use Rattle.verdicts.specs.TreeBoards.{IsOnBoard, Reads, game_of};
+ghost use Rattle.verdicts.specs.TreeBehaviours.{IsPlayedBehaviour, Reads, game_of};
 ghost use Rattle.behaviour_profile.specs.EntryStarts.{AreBehaviourEntries};
 ghost use Rattle.verdicts.specs.declared.payoffs.PayoffsStop.TheVariants as stops;
 
-use crate::trees_board::Board;
+use crate::trees_behaviour::PlayedBehaviour;
 use behaviour_profile::{Behaviour, starts_of};
 use frac128::{Frac, Memory, Unfit};
 use game_core::Tree;
@@ -57,19 +57,19 @@ impl<T: Drop> From<AllocFailed<T>> for PayoffsStop {
     }
 }
 
-// What the behaviour of a board pays each player, in order.
-fn payoffs_on(alloc: Global, board: &Board) -> Result<Vec<Frac>, PayoffsStop>
-    requires board { IsOnBoard board.now }
-    ensures payoffs { (b : TreeBehaviour) → Reads board.now b → let t = game_of board.now in
+// What a played behaviour pays each player, in order.
+fn payoffs_on(alloc: Global, played: &PlayedBehaviour) -> Result<Vec<Frac>, PayoffsStop>
+    requires played { IsPlayedBehaviour played.now }
+    ensures payoffs { (b : TreeBehaviour) → Reads played.now b → let t = game_of played.now in
         IfOk result (λ payoffs. payoffs.items ≡ listed t.players (payoff t b)) }
-    ensures stop { (b : TreeBehaviour) → Reads board.now b
-        → Gives stops.Memory (behaviour_payoffs_in (game_of board.now) b)
+    ensures stop { (b : TreeBehaviour) → Reads played.now b
+        → Gives stops.Memory (behaviour_payoffs_fit (game_of played.now) b)
         (map_ok result (λ _. tt)) }
 {
-    stands_for_game_tree(board.tree);
+    stands_for_game_tree(played.tree);
     let mut payoffs = Vec::new(alloc);
-    for player in 0..board.tree.players().len() as u32 {
-        match board.value(player, 0) {
+    for player in 0..played.tree.players().len() as u32 {
+        match played.value(player, 0) {
             Ok(payoff) => payoffs.push(payoff)?,
             Err(unfit) => return Err(PayoffsStop::Range { player, unfit }),
         }
@@ -93,21 +93,22 @@ pub fn behaviour_payoffs(
         → IfOk result (λ payoffs. payoffs.items ≡ listed t.players (payoff t b)) }
     ensures stop { (b : TreeBehaviour) → let t = game_of_tree tree.now in
         behaviour.now ≡ tree_entries t b
-        → Gives stops.Memory (behaviour_payoffs_in t b) (map_ok result (λ _. tt)) }
+        → Gives stops.Memory (behaviour_payoffs_fit t b) (map_ok result (λ _. tt)) }
 {
     stands_for_game_tree(tree);
     let children = children_of_all(alloc, tree)?;
     let starts = starts_of(alloc, tree)?;
-    let board = Board {
+    let played = PlayedBehaviour {
         tree,
         children: children.as_slice(),
         starts: starts.as_slice(),
         entries: behaviour.entries(),
     };
-    payoffs_on(alloc, &board)
+    payoffs_on(alloc, &played)
 }
 
-/// A behaviour pays something, or one first step does not fit, and never both.
+/// A behaviour has at most one answer: that all steps of what it pays fit, or the first that does
+/// not.
 pub fn behaviour_payoffs_are_single()
     ensures { BehaviourPayoffsAreSingle }
 {}

@@ -2,7 +2,7 @@
 ghost use Rattle.std.specs.Prelude.{◌≡◌, ◌+◌, ◌*◌, ◌<◌, ◌≤◌, length, IfOk};
 ghost use Rattle.game_core.specs.TreeGame.{game_of_tree};
 
-use crate::trees_board::Board;
+use crate::trees_behaviour::PlayedBehaviour;
 use crate::trees_player::{PlayerPayoffs, check_player, write_reply};
 use behaviour_profile::starts_of;
 use frac128::{Frac, Memory, Unfit};
@@ -54,7 +54,7 @@ impl Scratch {
     ghost use Rattle.best_replies.specs.Replies.{reply_value, AreBestChoices};
     ghost use Rattle.frac128.specs.Steps.{StepFits, IsFirstUnfit};
     ghost use Rattle.verdicts.specs.TreeScratches.{IsScratchOf, choices_of, reply_of};
-    ghost use Rattle.verdicts.specs.TreeSides.{AreChosen};
+    ghost use Rattle.verdicts.specs.TreeReplies.{AreChosen};
     ghost use Rattle.verdicts.specs.TreeSteps.{player_steps};
     ghost use Rattle.behaviour_profile.specs.EntryStarts.{AreBehaviourEntries};
 
@@ -112,14 +112,14 @@ impl Scratch {
             (IsFirstUnfit (player_steps t b player choice)) }
     {
         stands_for_game_tree(tree);
-        let board = Board {
+        let played = PlayedBehaviour {
             tree,
             children: self.children.as_slice(),
             starts: self.starts.as_slice(),
             entries,
         };
         check_player(
-            &board,
+            &played,
             player,
             self.weights.as_mut_slice(),
             self.choices.as_mut_slice(),

@@ -1,47 +1,10 @@
 // Whether a mixed profile of a table is an equilibrium.
-ghost use Rattle.std.specs.Prelude.{
-  ◌≡◌,
-  ◌+◌,
-  ◌*◌,
-  ◌<◌,
-  ◌≤◌,
-  ◌++◌,
-  ℕ,
-  List,
-  All,
-  length,
-  sum,
-  slice_index,
-  take,
-  IfOk,
-  IfErr,
-  OnOk,
-};
-ghost use Rattle.std.specs.List.{flat_map, range_with_len};
+ghost use Rattle.std.specs.Prelude.{◌≡◌, ◌<◌, ◌++◌, List, length, sum, take};
 ghost use Rattle.rational.specs.Rational.{ℚ, ◌+ℚ◌, ◌*ℚ◌};
-ghost use Rattle.game_theory.specs.Mixed.{payoff as payoff_of};
-ghost use Rattle.game_theory.specs.Profiles.{profile_at, profile_count};
-ghost use Rattle.game_core.specs.Table.{IsTable, game_of, strategy_counts};
-ghost use Rattle.frac128.specs.Steps.{IsFirstUnfit, Step, StepFits, StepsGive};
-ghost use Rattle.best_replies.specs.Strategies.{
-  IsBestStrategy,
-  strategy_value as value_of,
-  value_below,
-  weight,
-};
-ghost use Rattle.behaviour_profile.specs.EntryTests.{mixed_of};
+ghost use Rattle.game_core.specs.Table.{strategy_counts};
+ghost use Rattle.frac128.specs.Steps.{Step, StepsGive};
 ghost use Rattle.verdicts.specs.TableLaws.{TableVerdictsAreSingle, TableVerdictsFindEquilibria};
-ghost use Rattle.verdicts.specs.TableChecks.{
-  IsFound,
-  payoff_steps,
-  player_steps,
-  steps_at,
-  strategy_steps,
-  table_verdict,
-  value_steps,
-  weighed_steps,
-  weight_steps,
-};
+ghost use Rattle.verdicts.specs.TableChecks.{table_verdict, weighed_steps};
 
 use crate::mixed::Mixed;
 use frac128::{Frac, Unfit};
@@ -94,6 +57,18 @@ struct BetterReply {
     reply: u32,
 }
 
+// A player of a table, to whom the mixed strategies of the others leave a reply. Players,
+// strategies and profiles are numbered from 0.
+#[derive(Drop)]
+struct TableReplies<'a> {
+    // The table.
+    table: &'a Table,
+    // The mixed profile.
+    mixed: &'a Mixed,
+    // The player.
+    player: usize,
+}
+
 // Where a player's entries begin.
 fn first_entry(table: &Table, player: usize) -> usize
     requires { player < length table.now.players }
@@ -117,86 +92,6 @@ fn add_weighed(sum: Frac, weight: Frac, number: Frac) -> Result<Frac, Unfit>
     sum.add(product)
 }
 
-// The product of the probabilities with which the others play a profile.
-fn others_weight(table: &Table, mixed: &Mixed, player: usize, profile: usize) -> Result<Frac, Unfit>
-    requires { length mixed.now ≡ sum (strategy_counts table.now) }
-    ensures { let counts = strategy_counts table.now in
-        let m = mixed_of counts mixed.now in
-        let strategies = profile_at counts profile in
-        StepsGive (weight_steps m player strategies) (weight m player strategies) result }
-{
-    let entries = mixed.entries();
-    let mut product = Frac::one();
-    let mut first = 0;
-    let mut rest = profile;
-    for other in 0..table.players().len() {
-        let count = table.strategy_count(other);
-        if other != player {
-            product = product.mul(entries[first + rest % count])?;
-        }
-        first += count;
-        rest /= count;
-    }
-    Ok(product)
-}
-
-// Adds what a strategy is worth at the profiles from one on to a sum, where it is played in each.
-fn add_profiles(
-    table: &Table,
-    mixed: &Mixed,
-    player: usize,
-    strategy: usize,
-    so_far: Frac,
-    first: usize,
-    count: usize,
-) -> Result<Frac, Unfit>
-    requires entries { length mixed.now ≡ sum (strategy_counts table.now) }
-    requires player { player < length table.now.players }
-    requires valid { IsTable table.now }
-    requires profiles { first + count ≤ profile_count (strategy_counts table.now) }
-    requires played { (k : ℕ) → first ≤ k → k < first + count
-        → slice_index (profile_at (strategy_counts table.now) k) player ≡ strategy }
-    requires so_far { let m = mixed_of (strategy_counts table.now) mixed.now in
-        so_far ≡ value_below (game_of table.now) m player strategy first }
-    ensures { let m = mixed_of (strategy_counts table.now) mixed.now in
-        let g = game_of table.now in
-        let value = value_below g m player strategy (first + count) in
-        let steps = flat_map (steps_at g m player strategy) (range_with_len first count) in
-        StepsGive steps value result }
-{
-    let mut value = so_far;
-    for profile in first..first + count {
-        let weight = others_weight(table, mixed, player, profile)?;
-        value = add_weighed(value, weight, table.payoff_at(profile, player))?;
-    }
-    Ok(value)
-}
-
-// What a strategy is worth, by the blocks of profiles in which it is played, in table order.
-fn strategy_value(
-    table: &Table,
-    mixed: &Mixed,
-    player: usize,
-    strategy: usize,
-) -> Result<Frac, Unfit>
-    requires entries { length mixed.now ≡ sum (strategy_counts table.now) }
-    requires player { player < length table.now.players }
-    requires strategy { strategy < slice_index (strategy_counts table.now) player }
-    ensures { let m = mixed_of (strategy_counts table.now) mixed.now in
-        let g = game_of table.now in
-        StepsGive (strategy_steps g m player strategy) (value_of g m player strategy) result }
-{
-    let stride = table.stride(player);
-    let profiles = table.payoffs().len() / table.players().len();
-    let mut value = Frac::zero();
-    let mut first = strategy * stride;
-    while first < profiles {
-        value = add_profiles(table, mixed, player, strategy, value, first, stride)?;
-        first += stride * table.strategy_count(player);
-    }
-    Ok(value)
-}
-
 // Adds the product of a weight and a number to a sum. A sum that is an error stays that error.
 fn with_share(sum: Result<Frac, Unfit>, weight: Frac, number: Frac) -> Result<Frac, Unfit>
     ensures { (steps : List Step) (so_far : ℚ) → StepsGive steps so_far sum
@@ -206,61 +101,171 @@ fn with_share(sum: Result<Frac, Unfit>, weight: Frac, number: Frac) -> Result<Fr
     add_weighed(sum?, weight, number)
 }
 
-// The first of a player's best strategies, and what the profile pays the player.
-fn tally_strategies(table: &Table, mixed: &Mixed, player: usize) -> Result<Tally, Unfit>
-    requires entries { length mixed.now ≡ sum (strategy_counts table.now) }
-    requires player { player < length table.now.players }
-    ensures best { let m = mixed_of (strategy_counts table.now) mixed.now in
-        IfOk result (λ tally. IsBestStrategy (game_of table.now) m player tally.best.strategy) }
-    ensures value { let m = mixed_of (strategy_counts table.now) mixed.now in
-        let g = game_of table.now in
-        IfOk result (λ tally. tally.best.value ≡ value_of g m player tally.best.strategy) }
-    ensures payoff { let m = mixed_of (strategy_counts table.now) mixed.now in
-        let g = game_of table.now in
-        IfOk result
-        (λ tally. StepsGive (payoff_steps g m player) (payoff_of g m player) tally.payoff) }
-    ensures fits { let m = mixed_of (strategy_counts table.now) mixed.now in
-        OnOk result (All StepFits (value_steps (game_of table.now) m player)) }
-    ensures unfit { let m = mixed_of (strategy_counts table.now) mixed.now in
-        IfErr result (IsFirstUnfit (value_steps (game_of table.now) m player)) }
-{
-    let count = table.strategy_count(player);
-    let first = first_entry(table, player);
-    let value = strategy_value(table, mixed, player, 0)?;
-    let mut best = Worth { strategy: 0, value };
-    let mut payoff = with_share(Ok(Frac::zero()), mixed.entries()[first], value);
-    for strategy in 1..count {
-        let value = strategy_value(table, mixed, player, strategy)?;
-        payoff = with_share(payoff, mixed.entries()[first + strategy], value);
-        if best.value.is_less(value) {
-            best = Worth {
-                strategy: strategy as u32,
-                value,
-            };
-        }
-    }
-    Ok(Tally { best, payoff })
-}
+impl<'a> TableReplies<'a> {
+    ghost use Rattle.std.specs.Prelude.{
+      ◌≡◌,
+      ◌+◌,
+      ◌<◌,
+      ◌≤◌,
+      ℕ,
+      All,
+      slice_index,
+      IfOk,
+      IfErr,
+      OnOk,
+    };
+    ghost use Rattle.std.specs.List.{flat_map, range_with_len};
+    ghost use Rattle.game_theory.specs.Mixed.{payoff as payoff_of};
+    ghost use Rattle.game_theory.specs.Profiles.{profile_at, profile_count};
+    ghost use Rattle.game_core.specs.Table.{IsTable, strategy_counts};
+    ghost use Rattle.frac128.specs.Steps.{IsFirstUnfit, StepFits, StepsGive};
+    ghost use Rattle.best_replies.specs.Strategies.{
+      IsBestStrategy,
+      strategy_value as value_of,
+      value_below,
+      weight,
+    };
+    ghost use Rattle.verdicts.specs.TableChecks.{
+      IsFound,
+      payoff_steps,
+      player_steps,
+      steps_at,
+      strategy_steps,
+      value_steps,
+      weight_steps,
+    };
+    ghost use Rattle.verdicts.specs.TableReplies.{AreTableReplies, game_at, mixed_at};
 
-// A player's best strategy, if it is worth more than the payoff.
-fn better_reply(table: &Table, mixed: &Mixed, player: usize) -> Result<Option<BetterReply>, Unfit>
-    requires entries { length mixed.now ≡ sum (strategy_counts table.now) }
-    requires player { player < length table.now.players }
-    ensures found { let m = mixed_of (strategy_counts table.now) mixed.now in
-        IfOk result (IsFound (game_of table.now) m player) }
-    ensures unfit { let m = mixed_of (strategy_counts table.now) mixed.now in
-        IfErr result (IsFirstUnfit (player_steps (game_of table.now) m player)) }
-{
-    let Tally { best, payoff } = tally_strategies(table, mixed, player)?;
-    let payoff = payoff?;
-    if payoff.is_less(best.value) {
-        Ok(Some(BetterReply {
-            payoff,
-            best: best.value,
-            reply: best.strategy,
-        }))
-    } else {
-        Ok(None)
+    // The product of the probabilities with which the others play a profile.
+    fn others_weight(&self, profile: usize) -> Result<Frac, Unfit>
+        requires replies { AreTableReplies self.now }
+        ensures { let m = mixed_at self.now in
+            let i = self.now.player in
+            let strategies = profile_at (strategy_counts self.now.table.now) profile in
+            StepsGive (weight_steps m i strategies) (weight m i strategies) result }
+    {
+        let entries = self.mixed.entries();
+        let mut product = Frac::one();
+        let mut first = 0;
+        let mut rest = profile;
+        for other in 0..self.table.players().len() {
+            let count = self.table.strategy_count(other);
+            if other != self.player {
+                product = product.mul(entries[first + rest % count])?;
+            }
+            first += count;
+            rest /= count;
+        }
+        Ok(product)
+    }
+
+    // Adds what a strategy is worth at the profiles from one on to a sum, where it is played in
+    // each.
+    fn add_profiles(
+        &self,
+        strategy: usize,
+        so_far: Frac,
+        first: usize,
+        count: usize,
+    ) -> Result<Frac, Unfit>
+        requires replies { AreTableReplies self.now }
+        requires valid { IsTable self.now.table.now }
+        requires profiles { first + count ≤ profile_count (strategy_counts self.now.table.now) }
+        requires played { (k : ℕ) → first ≤ k → k < first + count
+            → slice_index (profile_at (strategy_counts self.now.table.now) k) self.now.player
+            ≡ strategy }
+        requires so_far { let m = mixed_at self.now in
+            so_far ≡ value_below (game_at self.now) m self.now.player strategy first }
+        ensures { let m = mixed_at self.now in
+            let g = game_at self.now in
+            let i = self.now.player in
+            let value = value_below g m i strategy (first + count) in
+            let steps = flat_map (steps_at g m i strategy) (range_with_len first count) in
+            StepsGive steps value result }
+    {
+        let mut value = so_far;
+        for profile in first..first + count {
+            let weight = self.others_weight(profile)?;
+            value = add_weighed(value, weight, self.table.payoff_at(profile, self.player))?;
+        }
+        Ok(value)
+    }
+
+    // What a strategy is worth, by the blocks of profiles in which it is played, in table order.
+    fn strategy_value(&self, strategy: usize) -> Result<Frac, Unfit>
+        requires replies { AreTableReplies self.now }
+        requires strategy { strategy
+            < slice_index (strategy_counts self.now.table.now) self.now.player }
+        ensures { let m = mixed_at self.now in
+            let g = game_at self.now in
+            let i = self.now.player in
+            StepsGive (strategy_steps g m i strategy) (value_of g m i strategy) result }
+    {
+        let stride = self.table.stride(self.player);
+        let profiles = self.table.payoffs().len() / self.table.players().len();
+        let mut value = Frac::zero();
+        let mut first = strategy * stride;
+        while first < profiles {
+            value = self.add_profiles(strategy, value, first, stride)?;
+            first += stride * self.table.strategy_count(self.player);
+        }
+        Ok(value)
+    }
+
+    // The first of the player's best strategies, and what the profile pays the player.
+    fn tally(&self) -> Result<Tally, Unfit>
+        requires replies { AreTableReplies self.now }
+        ensures best { IfOk result (λ tally.
+            IsBestStrategy (game_at self.now) (mixed_at self.now) self.now.player
+            tally.best.strategy) }
+        ensures value { IfOk result (λ tally. tally.best.value
+            ≡ value_of (game_at self.now) (mixed_at self.now) self.now.player tally.best.strategy) }
+        ensures payoff { let m = mixed_at self.now in
+            let g = game_at self.now in
+            let i = self.now.player in
+            IfOk result (λ tally. StepsGive (payoff_steps g m i) (payoff_of g m i) tally.payoff) }
+        ensures fits { OnOk result
+            (All StepFits (value_steps (game_at self.now) (mixed_at self.now) self.now.player)) }
+        ensures unfit { IfErr result
+            (IsFirstUnfit (value_steps (game_at self.now) (mixed_at self.now) self.now.player)) }
+    {
+        let count = self.table.strategy_count(self.player);
+        let first = first_entry(self.table, self.player);
+        let value = self.strategy_value(0)?;
+        let mut best = Worth { strategy: 0, value };
+        let mut payoff = with_share(Ok(Frac::zero()), self.mixed.entries()[first], value);
+        for strategy in 1..count {
+            let value = self.strategy_value(strategy)?;
+            payoff = with_share(payoff, self.mixed.entries()[first + strategy], value);
+            if best.value.is_less(value) {
+                best = Worth {
+                    strategy: strategy as u32,
+                    value,
+                };
+            }
+        }
+        Ok(Tally { best, payoff })
+    }
+
+    // The player's best strategy, if it is worth more than the payoff.
+    fn better_reply(&self) -> Result<Option<BetterReply>, Unfit>
+        requires replies { AreTableReplies self.now }
+        ensures found { IfOk result
+            (IsFound (game_at self.now) (mixed_at self.now) self.now.player) }
+        ensures unfit { IfErr result
+            (IsFirstUnfit (player_steps (game_at self.now) (mixed_at self.now) self.now.player)) }
+    {
+        let Tally { best, payoff } = self.tally()?;
+        let payoff = payoff?;
+        if payoff.is_less(best.value) {
+            Ok(Some(BetterReply {
+                payoff,
+                best: best.value,
+                reply: best.strategy,
+            }))
+        } else {
+            Ok(None)
+        }
     }
 }
 
@@ -271,7 +276,12 @@ pub fn check_table(table: &Table, mixed: &Mixed) -> TableVerdict
     ensures { table_verdict table.now mixed.now result }
 {
     for player in 0..table.players().len() {
-        match better_reply(table, mixed, player) {
+        let replies = TableReplies {
+            table,
+            mixed,
+            player,
+        };
+        match replies.better_reply() {
             Ok(None) => {}
             Ok(Some(better)) => {
                 return TableVerdict::Better {

@@ -75,7 +75,8 @@ pub fn check_tree(
     TreeVerdict::Equilibrium
 }
 
-/// A tree and the entries of a behaviour have one verdict and one reply.
+/// A tree in which all players recall and the entries of a behaviour have at most one verdict, with
+/// one reply.
 pub fn tree_verdicts_are_single()
     ensures { TreeVerdictsAreSingle }
 {

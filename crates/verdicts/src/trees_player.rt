@@ -6,12 +6,12 @@ ghost use Rattle.game_core.specs.TreeGame.{game_of_tree};
 ghost use Rattle.best_replies.specs.Order.{AscendOnPaths};
 ghost use Rattle.best_replies.specs.Replies.{reply_value, AreBestChoices};
 ghost use Rattle.frac128.specs.Steps.{StepFits, IsFirstUnfit};
-ghost use Rattle.verdicts.specs.TreeBoards.{IsOnBoard, Reads, game_of};
-ghost use Rattle.verdicts.specs.TreeSides.{AreChosen};
+ghost use Rattle.verdicts.specs.TreeBehaviours.{IsPlayedBehaviour, Reads, game_of};
+ghost use Rattle.verdicts.specs.TreeReplies.{AreChosen};
 ghost use Rattle.verdicts.specs.TreeSteps.{best_steps, player_steps};
 
-use crate::trees_board::Board;
-use crate::trees_side::Side;
+use crate::trees_behaviour::PlayedBehaviour;
+use crate::trees_replies::TreeReplies;
 use frac128::{Frac, Unfit};
 use game_core::Tree;
 use game_core::tree_parts::is_own;
@@ -27,58 +27,58 @@ pub(crate) struct PlayerPayoffs {
 
 // What a player's best choices pay; writes these at the player's sets.
 fn best_payoff(
-    board: &Board,
+    played: &PlayedBehaviour,
     player: u32,
     weights: &mut [Frac],
     choices: &mut [u32],
     values: &mut [Frac],
 ) -> Result<Frac, Unfit>
-    requires board { IsOnBoard board.now }
-    requires player { player < length board.now.tree.now.players }
-    requires weights { length weights.old ≡ length board.now.tree.now.nodes }
-    requires choices { length choices.old ≡ length board.now.tree.now.sets }
-    requires values { length values.old ≡ length board.now.tree.now.nodes }
-    ensures { (b : Behaviour) (choice : ℕ → ℕ) → let t = game_of board.now in
-        Reads board.now b → AscendOnPaths t player → AreBestChoices t b player choice
+    requires played { IsPlayedBehaviour played.now }
+    requires player { player < length played.now.tree.now.players }
+    requires weights { length weights.old ≡ length played.now.tree.now.nodes }
+    requires choices { length choices.old ≡ length played.now.tree.now.sets }
+    requires values { length values.old ≡ length played.now.tree.now.nodes }
+    ensures { (b : Behaviour) (choice : ℕ → ℕ) → let t = game_of played.now in
+        Reads played.now b → AscendOnPaths t player → AreBestChoices t b player choice
         → MatchResult result
         (λ best. (best ≡ reply_value t b player choice 0)
         × All StepFits (best_steps t b player choice) × AreChosen t player choice choices.new)
         (IsFirstUnfit (best_steps t b player choice)) }
 {
-    board.set_weights(player, weights)?;
-    let side = Side {
-        tree: board.tree,
-        children: board.children,
+    played.set_weights(player, weights)?;
+    let replies = TreeReplies {
+        tree: played.tree,
+        children: played.children,
         weights,
         player,
     };
     choices.fill(0);
-    side.decide_all(choices, values)?;
-    side.value(choices, values, 0)
+    replies.decide_all(choices, values)?;
+    replies.value(choices, values, 0)
 }
 
 // What a behaviour pays a player, and what the best choices pay; writes these at the player's sets.
 pub(crate) fn check_player(
-    board: &Board,
+    played: &PlayedBehaviour,
     player: u32,
     weights: &mut [Frac],
     choices: &mut [u32],
     values: &mut [Frac],
 ) -> Result<PlayerPayoffs, Unfit>
-    requires board { IsOnBoard board.now }
-    requires player { player < length board.now.tree.now.players }
-    requires weights { length weights.old ≡ length board.now.tree.now.nodes }
-    requires choices { length choices.old ≡ length board.now.tree.now.sets }
-    requires values { length values.old ≡ length board.now.tree.now.nodes }
-    ensures { (b : Behaviour) (choice : ℕ → ℕ) → let t = game_of board.now in
-        Reads board.now b → AscendOnPaths t player → AreBestChoices t b player choice
+    requires played { IsPlayedBehaviour played.now }
+    requires player { player < length played.now.tree.now.players }
+    requires weights { length weights.old ≡ length played.now.tree.now.nodes }
+    requires choices { length choices.old ≡ length played.now.tree.now.sets }
+    requires values { length values.old ≡ length played.now.tree.now.nodes }
+    ensures { (b : Behaviour) (choice : ℕ → ℕ) → let t = game_of played.now in
+        Reads played.now b → AscendOnPaths t player → AreBestChoices t b player choice
         → MatchResult result
         (λ pays. (pays.payoff ≡ payoff t b player) × (pays.best ≡ reply_value t b player choice 0)
         × All StepFits (player_steps t b player choice) × AreChosen t player choice choices.new)
         (IsFirstUnfit (player_steps t b player choice)) }
 {
-    let payoff = board.value(player, 0)?;
-    let best = best_payoff(board, player, weights, choices, values)?;
+    let payoff = played.value(player, 0)?;
+    let best = best_payoff(played, player, weights, choices, values)?;
     Ok(PlayerPayoffs { payoff, best })
 }
 

@@ -11,6 +11,7 @@ ghost use Rattle.frac128.specs.Steps.{StepFits, IsFirstUnfit};
 
 use crate::arithmetic::{exact_quotient, short_factor};
 use crate::divisors::Divisor;
+use crate::places::RowPair;
 use crate::rows::{
     common_divisor, copy_row, divide_row, write_combination, write_divided, write_turned,
 };
@@ -105,128 +106,109 @@ fn probable_divisor(a: i128, b: i128) -> Option<u64>
 // Writes a row that is not the pivot's, where all numbers have no more than 64 bits and a guess of
 // a common divisor is one. The factors are the entry and the row's number in the column as they
 // are, so that no greatest common divisor of the two is sought.
-fn write_short(
-    numbers: &[i128],
-    spare: &mut [i128],
-    own: usize,
-    first: usize,
-    column: usize,
-    size: usize,
-) -> bool
-    requires own_in { own + size ≤ length numbers.now }
-    requires first_in { first + size ≤ length numbers.now }
-    requires spare_in { own + size ≤ length spare.old }
-    requires column_in { column < size }
-    requires column_positive { 0 < column }
-    requires fit { AllPartsFit numbers.now }
-    requires entry { from_place numbers.now first column ≢ pos 0 }
-    requires number { from_place numbers.now own column ≢ pos 0 }
-    requires row { IsRow size (from_place numbers.now own) }
-    requires pivot_row { IsRow size (from_place numbers.now first) }
+fn write_short(pair: RowPair, spare: &mut [i128]) -> bool
+    requires spare_in { pair.own + pair.size ≤ length spare.old }
+    requires number { from_place pair.numbers.now pair.own pair.column ≢ pos 0 }
     ensures length { length spare.new ≡ length spare.old }
-    ensures kept { AgreeOutside own size spare.new spare.old }
-    ensures written { IsTrue result → IsPivotedRowAt numbers.now own first column size spare.new }
-    ensures fits { IsTrue result → All StepFits (row_steps_at numbers.now own first column size) }
+    ensures kept { AgreeOutside pair.entry.own pair.entry.size spare.new spare.old }
+    ensures written { let p = pair.entry in IsTrue result
+        → IsPivotedRowAt p.numbers.now p.own p.first p.column p.size spare.new }
+    ensures fits { let p = pair.entry in IsTrue result
+        → All StepFits (row_steps_at p.numbers.now p.own p.first p.column p.size) }
 {
-    let entry = numbers[first + column];
-    let number = numbers[own + column];
+    let numbers = pair.numbers;
+    let entry = numbers[pair.first + pair.column];
+    let number = numbers[pair.own + pair.column];
     let Some(u) = short_factor(times_sign(entry, entry)) else {
         return false;
     };
     let Some(v) = short_factor(times_sign(entry, number)) else {
         return false;
     };
-    let Some(common) = probable_divisor(numbers[own], numbers[first]) else {
+    let Some(common) = probable_divisor(numbers[pair.own], numbers[pair.first]) else {
         return false;
     };
-    if !write_divided(
-        numbers,
-        spare,
-        own,
-        first,
-        column,
-        size,
-        u,
-        v,
-        Divisor::new(common),
-    ) {
+    if !write_divided(pair, spare, u, v, Divisor::new(common)) {
         return false;
     }
-    reduce_row(spare, own, size);
+    reduce_row(spare, pair.own, pair.size);
     true
 }
 
 // Writes a row that is not the pivot's.
-fn write_other(
-    numbers: &[i128],
-    spare: &mut [i128],
-    own: usize,
-    first: usize,
-    column: usize,
-    size: usize,
-) -> Result<(), Unfit>
-    requires own_in { own + size ≤ length numbers.now }
-    requires first_in { first + size ≤ length numbers.now }
-    requires spare_in { own + size ≤ length spare.old }
-    requires column_in { column < size }
-    requires column_positive { 0 < column }
-    requires fit { AllPartsFit numbers.now }
-    requires entry { from_place numbers.now first column ≢ pos 0 }
-    requires row { IsRow size (from_place numbers.now own) }
-    requires pivot_row { IsRow size (from_place numbers.now first) }
+fn write_other(pair: RowPair, spare: &mut [i128]) -> Result<(), Unfit>
+    requires spare_in { pair.own + pair.size ≤ length spare.old }
     ensures length { length spare.new ≡ length spare.old }
-    ensures kept { AgreeOutside own size spare.new spare.old }
-    ensures written { OnOk result (IsPivotedRowAt numbers.now own first column size spare.new) }
-    ensures fits { OnOk result (All StepFits (row_steps_at numbers.now own first column size)) }
-    ensures unfit { IfErr result (IsFirstUnfit (row_steps_at numbers.now own first column size)) }
+    ensures kept { AgreeOutside pair.entry.own pair.entry.size spare.new spare.old }
+    ensures written { let p = pair.entry in OnOk result
+        (IsPivotedRowAt p.numbers.now p.own p.first p.column p.size spare.new) }
+    ensures fits { let p = pair.entry in OnOk result
+        (All StepFits (row_steps_at p.numbers.now p.own p.first p.column p.size)) }
+    ensures unfit { let p = pair.entry in IfErr result
+        (IsFirstUnfit (row_steps_at p.numbers.now p.own p.first p.column p.size)) }
 {
-    let number = numbers[own + column];
+    let number = pair.numbers[pair.own + pair.column];
     if number == 0 {
-        copy_row(numbers, spare, own, size);
+        copy_row(pair.numbers, spare, pair.own, pair.size);
         return Ok(());
     }
-    if write_short(numbers, spare, own, first, column, size) {
+    if write_short(pair, spare) {
         return Ok(());
     }
-    let entry = numbers[first + column];
+    let entry = pair.numbers[pair.first + pair.column];
     let (u, v) = factors(entry, number);
-    write_combination(numbers, spare, own, first, column, size, u, v)?;
-    reduce_row(spare, own, size);
+    write_combination(pair, spare, u, v)?;
+    reduce_row(spare, pair.own, pair.size);
     Ok(())
 }
 
-// Writes what the pivot makes of one row.
-fn write_row(
-    numbers: &[i128],
-    spare: &mut [i128],
+// A pivot of rows in a list of numbers.
+#[derive(Clone, Copy)]
+struct Pivot<'a> {
+    numbers: &'a [i128],
+    // How many rows there are, and how many numbers each has.
     rows: usize,
     size: usize,
+    // The pivot's row, counted from 0, and the place of its column in each row, counted from 1.
     row: usize,
     column: usize,
-    i: usize,
-) -> Result<(), Unfit>
-    requires row_in { row < rows }
-    requires own_in { i < rows }
-    requires column_in { column < size }
-    requires column_positive { 0 < column }
-    requires shape { length numbers.now ≡ rows * size }
-    requires spare_shape { length spare.old ≡ rows * size }
-    requires entry { from_place numbers.now (row * size) column ≢ pos 0 }
-    requires are_rows { AreRows rows size numbers.now }
-    requires fit { AllPartsFit numbers.now }
+    ghost row_in: { row < rows },
+    ghost column_in: { column < size },
+    ghost column_positive: { 0 < column },
+    ghost shape: { length numbers.now ≡ rows * size },
+    ghost entry: { from_place numbers.now (row * size) column ≢ pos 0 },
+    ghost are_rows: { AreRows rows size numbers.now },
+    ghost fit: { AllPartsFit numbers.now },
+}
+
+// Writes what the pivot makes of one row.
+fn write_row(pivot: Pivot, spare: &mut [i128], i: usize) -> Result<(), Unfit>
+    requires own_in { i < pivot.rows }
+    requires spare_shape { length spare.old ≡ pivot.rows * pivot.size }
     ensures length { length spare.new ≡ length spare.old }
-    ensures kept { AgreeOutside (i * size) size spare.new spare.old }
-    ensures pivot_row { OnOk result (i ≡ row → IsPivotAt numbers.now size i column spare.new) }
-    ensures others { OnOk result (i ≢ row → IsPivotedAt numbers.now size row column spare.new i) }
-    ensures fits { OnOk result (All StepFits (steps_of_row numbers.now size row column i)) }
-    ensures unfit { IfErr result (IsFirstUnfit (steps_of_row numbers.now size row column i)) }
+    ensures kept { AgreeOutside (i * pivot.entry.size) pivot.entry.size spare.new spare.old }
+    ensures pivot_row { let p = pivot.entry in OnOk result
+        (i ≡ p.row → IsPivotAt p.numbers.now p.size i p.column spare.new) }
+    ensures others { let p = pivot.entry in OnOk result
+        (i ≢ p.row → IsPivotedAt p.numbers.now p.size p.row p.column spare.new i) }
+    ensures fits { let p = pivot.entry in OnOk result
+        (All StepFits (steps_of_row p.numbers.now p.size p.row p.column i)) }
+    ensures unfit { let p = pivot.entry in IfErr result
+        (IsFirstUnfit (steps_of_row p.numbers.now p.size p.row p.column i)) }
 {
-    if i == row {
-        write_turned(numbers, spare, i * size, column, size);
-        Ok(())
-    } else {
-        write_other(numbers, spare, i * size, row * size, column, size)
+    let own = i * pivot.size;
+    if i == pivot.row {
+        write_turned(pivot.numbers, spare, own, pivot.column, pivot.size);
+        return Ok(());
     }
+    let pair = RowPair {
+        numbers: pivot.numbers,
+        own,
+        first: pivot.row * pivot.size,
+        column: pivot.column,
+        size: pivot.size,
+    };
+    write_other(pair, spare)
 }
 
 /// Writes what the pivot makes of rows of so many numbers. `row` is the pivot's row, and `column`
@@ -260,8 +242,15 @@ pub fn write_pivot(
     ensures fits { OnOk result (All StepFits (steps_of_rows numbers.now size row column rows)) }
     ensures unfit { IfErr result (IsFirstUnfit (steps_of_rows numbers.now size row column rows)) }
 {
+    let pivot = Pivot {
+        numbers,
+        rows,
+        size,
+        row,
+        column,
+    };
     for i in 0..rows {
-        write_row(numbers, spare, rows, size, row, column, i)?;
+        write_row(pivot, spare, i)?;
     }
     Ok(())
 }

@@ -9,7 +9,7 @@ ghost use Rattle.whole_rows.specs.Shorts.{IsShort};
 ghost use Rattle.frac128.specs.Steps.{StepFits, IsFirstUnfit};
 
 use crate::divisors::{Divisor, quotient_by};
-use crate::places::{number_at, short_number, unfit_at};
+use crate::places::RowPair;
 use frac128::{Unfit, gcd};
 
 // The greatest common divisor of a row. Where it is found to be 1, the rest is not looked at.
@@ -48,70 +48,49 @@ pub fn divide_row(numbers: &mut [i128], own: usize, size: usize, by: i128)
 }
 
 // Writes a row times u, less the pivot's row times v.
-pub fn write_combination(
-    numbers: &[i128],
-    spare: &mut [i128],
-    own: usize,
-    first: usize,
-    column: usize,
-    size: usize,
-    u: i128,
-    v: i128,
-) -> Result<(), Unfit>
-    requires own_in { own + size ≤ length numbers.now }
-    requires first_in { first + size ≤ length numbers.now }
-    requires spare_in { own + size ≤ length spare.old }
-    requires fit { AllPartsFit numbers.now }
+pub fn write_combination(pair: RowPair, spare: &mut [i128], u: i128, v: i128) -> Result<(), Unfit>
+    requires spare_in { pair.own + pair.size ≤ length spare.old }
     requires own_factor { PartFits u }
     requires other_factor { PartFits v }
     ensures length { length spare.new ≡ length spare.old }
-    ensures kept { AgreeOutside own size spare.new spare.old }
-    ensures written { OnOk result (IsUndividedRow numbers.now own first column u v size spare.new) }
-    ensures fits { OnOk result (All StepFits (steps_at numbers.now own first column u v size)) }
-    ensures unfit { IfErr result (IsFirstUnfit (steps_at numbers.now own first column u v size)) }
+    ensures kept { AgreeOutside pair.entry.own pair.entry.size spare.new spare.old }
+    ensures written { let p = pair.entry in OnOk result
+        (IsUndividedRow p.numbers.now p.own p.first p.column u v p.size spare.new) }
+    ensures fits { let p = pair.entry in OnOk result
+        (All StepFits (steps_at p.numbers.now p.own p.first p.column u v p.size)) }
+    ensures unfit { let p = pair.entry in IfErr result
+        (IsFirstUnfit (steps_at p.numbers.now p.own p.first p.column u v p.size)) }
 {
-    for place in 0..size {
-        let Some(number) = number_at(numbers, own, first, column, place, u, v) else {
-            return Err(unfit_at(numbers, own, first, column, place, u, v));
+    for place in 0..pair.size {
+        let Some(number) = pair.number_at(place, u, v) else {
+            return Err(pair.unfit_at(place, u, v));
         };
-        spare[own + place] = number;
+        spare[pair.own + place] = number;
     }
     Ok(())
 }
 
 // Writes a row times u, less the pivot's row times v, divided. It gives up where a number has more
 // than 64 bits or is not divided.
-pub fn write_divided(
-    numbers: &[i128],
-    spare: &mut [i128],
-    own: usize,
-    first: usize,
-    column: usize,
-    size: usize,
-    u: i64,
-    v: i64,
-    by: Divisor,
-) -> bool
-    requires own_in { own + size ≤ length numbers.now }
-    requires first_in { first + size ≤ length numbers.now }
-    requires spare_in { own + size ≤ length spare.old }
-    requires fit { AllPartsFit numbers.now }
+pub fn write_divided(pair: RowPair, spare: &mut [i128], u: i64, v: i64, by: Divisor) -> bool
+    requires spare_in { pair.own + pair.size ≤ length spare.old }
     requires own_factor { IsShort u }
     requires other_factor { IsShort v }
     ensures length { length spare.new ≡ length spare.old }
-    ensures kept { AgreeOutside own size spare.new spare.old }
-    ensures divided { IsTrue result
-        → IsDividedRow by.value numbers.now own first column u v size spare.new }
-    ensures fits { IsTrue result → RowFitsShort numbers.now own first column size }
+    ensures kept { AgreeOutside pair.entry.own pair.entry.size spare.new spare.old }
+    ensures divided { let p = pair.entry in IsTrue result
+        → IsDividedRow by.value p.numbers.now p.own p.first p.column u v p.size spare.new }
+    ensures fits { let p = pair.entry in IsTrue result
+        → RowFitsShort p.numbers.now p.own p.first p.column p.size }
 {
-    for place in 0..size {
-        let Some(number) = short_number(numbers, own, first, column, place, u, v) else {
+    for place in 0..pair.size {
+        let Some(number) = pair.short_number(place, u, v) else {
             return false;
         };
         let Some(quotient) = by.quotient(number) else {
             return false;
         };
-        spare[own + place] = quotient;
+        spare[pair.own + place] = quotient;
     }
     true
 }

@@ -1,4 +1,4 @@
--- That written nodes describe one tree, and that building gives it.
+-- That building from written nodes gives what they describe, and sees each limit that is passed.
 use Rattle.std.specs.Prelude.{ℕ, ◌<◌, ◌^◌, ◌≡◌, List, length, All, IfSome, Some}
 use Rattle.game_core.specs.declared.too_large.What.{What}
 use Rattle.game_core.specs.Tree.{GameTree, OpenBranch, IsBelow}

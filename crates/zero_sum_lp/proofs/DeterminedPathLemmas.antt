@@ -1,4 +1,4 @@
--- The path is determined: after n steps there is one tableau, and no path goes on past its end.
+-- The path is determined: after n steps there is at most one tableau, and no path goes on past its end.
 use Rattle.std.proofs.Common.{ℕ, suc, zero, pos, ◌<◌, ◌≤◌, ◌≡◌, sym, subst, subst₂, [], ◌∷◌, arith, ◌^◌, add-one, ◌⊎◌, inl, inr}
 use Rattle.std.proofs.lemmas.Bool.{cases_lt}
 use Rattle.linear_systems.specs.Lex.{IsLexLess}

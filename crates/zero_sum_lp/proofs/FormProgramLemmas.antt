@@ -13,7 +13,8 @@ use Rattle.sequence_data.specs.Data.{FormData}
 use Rattle.zero_sum_lp.specs.declared.stop.LpStop.{LpStop}
 use Rattle.zero_sum_lp.specs.declared.stop.LpStop.TheVariants as stops
 use Rattle.zero_sum_lp.specs.declared.stop.NotConstant.{NotConstant}
-use Rattle.zero_sum_lp.specs.FormPrograms.{IsSystemOf, gains_in, is_constant, program_in, size_of, form_start_in, sums_in, told_start}
+use Rattle.sequence_data.specs.Sizes.{form_sizes, program_size}
+use Rattle.zero_sum_lp.specs.FormPrograms.{IsSystemOf, gains_in, is_constant, program_in, form_start_in, sums_in, told_start}
 use Rattle.zero_sum_lp.specs.Parts.{Program}
 
 -- one stage more
@@ -36,7 +37,7 @@ module _ (f : FormData) (s : LinearSystem) (is_system : IsSystemOf f s) where
 -- ---- all stages
 module _ (f : FormData) where
   abbrev size_stage : Answer LpStop (Unit {0})
-  size_stage = refused_by stops.TooLarge (within what.Rows most_rows (size_of f))
+  size_stage = refused_by stops.TooLarge (within what.Rows most_rows (program_size (form_sizes f)))
 
   abbrev constant_stage : Answer LpStop (Unit {0})
   constant_stage = refused_by stops.NotConstant (is_constant f.leaves)
@@ -50,10 +51,10 @@ module _ (f : FormData) where
   abbrev from_sums : Answer LpStop Program
   from_sums = sums_in f.leaves >> from_constant
 
-  pub size_stop : (limit : TooLarge) → within what.Rows most_rows (size_of f) (Err limit) → Gives stops.Memory (program_in f) (Err (stops.TooLarge limit))
+  pub size_stop : (limit : TooLarge) → within what.Rows most_rows (program_size (form_sizes f)) (Err limit) → Gives stops.Memory (program_in f) (Err (stops.TooLarge limit))
   size_stop limit h = leave size_stage from_sums (stops.TooLarge limit) (inr (limit, h, refl))
 
-  module _ (few : most_rows < size_of f → ⊥) where
+  module _ (few : most_rows < program_size (form_sizes f) → ⊥) where
     pub sums_stop : (r : LpStop) → Gives stops.Memory (sums_in f.leaves) (Err r) → Gives stops.Memory (program_in f) (Err r)
     sums_stop r g = go_on size_stage from_sums (Err r) few (leave (sums_in f.leaves) from_constant r g)
 

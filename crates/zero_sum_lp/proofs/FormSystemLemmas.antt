@@ -17,7 +17,8 @@ use Rattle.sequence_forms.specs.Sides.{Side, sequences}
 use Rattle.sequence_data.specs.declared.types.Cell.{Cell}
 use Rattle.sequence_data.specs.Data.{FormData, IsFormData, LeafFits, SideData, form, side_of}
 use Rattle.sequence_data.specs.Matrices.{IsInside, placed, HoldsNumbers, number_at}
-use Rattle.zero_sum_lp.specs.FormPrograms.{IsSystemOf, gain_at, size_of}
+use Rattle.sequence_data.specs.Sizes.{form_sizes, program_size}
+use Rattle.zero_sum_lp.specs.FormPrograms.{IsSystemOf, gain_at}
 use Rattle.zero_sum_lp.specs.Systems.{IsSystemFor}
 use Rattle.zero_sum_lp.proofs.OptimumLemmas.{sets_are}
 use Rattle.lists.proofs.OptionLemmas.{if_ok-then}
@@ -60,7 +61,7 @@ module _ (f : FormData) (valid : IsFormData f) where
   second_count : f.second.sequences ≡ sequences (side_of f.second)
   second_count = valid.second_is.sequences_are
 
-  pub small : size_of f ≤ most_rows → f.first.sequences * f.second.sequences < 2 ^ 32
+  pub small : program_size (form_sizes f) ≤ most_rows → f.first.sequences * f.second.sequences < 2 ^ 32
   small few =
       let x : f.first.sequences ≤ 512 = omega (arith, few, first_count) in
       let y : f.second.sequences ≤ 512 = omega (arith, few, second_count) in
@@ -87,7 +88,7 @@ module _ (f : FormData) (valid : IsFormData f) where
       }
 
   -- a form's size as the code counts it
-  pub size_is : (a b x y : ℕ) → a ≡ length f.first.sets → b ≡ length f.second.sets → x ≡ f.first.sequences → y ≡ f.second.sequences → a + b + x + y + 2 ≡ size_of f
+  pub size_is : (a b x y : ℕ) → a ≡ length f.first.sets → b ≡ length f.second.sets → x ≡ f.first.sequences → y ≡ f.second.sequences → a + b + x + y + 2 ≡ program_size (form_sizes f)
   size_is a b x y ea eb ex ey =
       let s = sets_are f.first in let t = sets_are f.second in omega (arith, ea, eb, ex, ey, s, t, first_count, second_count)
 

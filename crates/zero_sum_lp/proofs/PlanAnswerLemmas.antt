@@ -1,4 +1,4 @@
--- An optimum has one pair of plans, or one first step that does not fit.
+-- An optimum has at most one answer: both plans, or the first step that does not fit.
 use Rattle.std.proofs.Common.{◌≡◌, Ok, subst}
 use Rattle.answers.specs.Answers.{◌>>=◌, only, refused_by}
 use Rattle.answers.proofs.AnswerLemmas.{bind-single, only-single, refused_by-single}
@@ -6,7 +6,7 @@ use Rattle.sequence_data.specs.Data.{side_of}
 use Rattle.rational.specs.Sum.{entry_at}
 use Rattle.zero_sum_lp.specs.declared.stop.PlanStop.TheVariants.{Range}
 use Rattle.zero_sum_lp.specs.Parts.{Program, first_raw, second_raw}
-use Rattle.zero_sum_lp.specs.PlanPairs.{PlanPair}
+use Rattle.sequence_data.specs.PlanPairs.{PlanPair}
 use Rattle.zero_sum_lp.specs.Plans.{IsRaised, IsTrimmed}
 use Rattle.zero_sum_lp.specs.PlanStops.{IsRaisedPlan, IsTrimmedPlan, PlansAreSingle, plans_of, raised_in, trimmed_in}
 use Rattle.zero_sum_lp.proofs.PlanStageLemmas.{plan_in-value, raised_in-single, trimmed_in-single}

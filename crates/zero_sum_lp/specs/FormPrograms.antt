@@ -14,18 +14,14 @@ use Rattle.game_core.specs.declared.too_large.What.TheVariants as what
 use Rattle.sequence_forms.specs.Prices.{gains}
 use Rattle.sequence_data.specs.declared.types.Cell.{Cell}
 use Rattle.sequence_data.specs.declared.types.Leaf.{Leaf}
-use Rattle.sequence_data.specs.Data.{FormData, form, side_of}
+use Rattle.sequence_data.specs.Data.{FormData, form}
+use Rattle.sequence_data.specs.Sizes.{form_sizes, program_size}
 use Rattle.zero_sum_lp.specs.Systems.{IsSystemFor}
 use Rattle.frac128.specs.FirstUnfit.{all_fit}
 use Rattle.zero_sum_lp.specs.declared.stop.LpStop.{LpStop}
 use Rattle.zero_sum_lp.specs.declared.stop.LpStop.TheVariants as stops
 use Rattle.zero_sum_lp.specs.declared.stop.NotConstant.{NotConstant}
-use Rattle.zero_sum_lp.specs.Parts.{Program, program_size}
-
--- ---- the size
--- the rows and columns of a form's program together
-abbrev pub size_of : FormData → ℕ
-size_of f = program_size (side_of f.first) (side_of f.second)
+use Rattle.zero_sum_lp.specs.Parts.{Program}
 
 -- ---- the sums of both players' payoffs
 -- the sum of both players' payoffs at a leaf
@@ -105,11 +101,11 @@ form_start_in f =
 -- leaf and whose steps all fit; or why there is none.
 abbrev pub program_in : FormData → Answer LpStop Program
 program_in f =
-    refused_by stops.TooLarge (within what.Rows most_rows (size_of f))
+    refused_by stops.TooLarge (within what.Rows most_rows (program_size (form_sizes f)))
     >> (sums_in f.leaves
     >> (refused_by stops.NotConstant (is_constant f.leaves)
     >> (gains_in f.least_one f.cells >> form_start_in f)))
 
--- A form has one program, or one reason why it has none.
+-- A form has at most one answer: its program, or the reason why it has none.
 abbrev pub ProgramsAreSingle : Type 0
 ProgramsAreSingle = (f : FormData) → IsSingle (program_in f)

@@ -6,7 +6,6 @@ pub mod Parts
 pub mod PathLaws
 pub mod Paths
 pub mod PlanLists
-pub mod PlanPairs
 pub mod PlanSteps
 pub mod PlanStops
 pub mod Plans

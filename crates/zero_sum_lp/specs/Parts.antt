@@ -2,7 +2,6 @@
 use Rattle.std.specs.Prelude.{ℕ, ◌+◌, ◌<◌, ◌≤◌, ◌≡◌, slice_index_or}
 use Rattle.rational.specs.Rational.{ℚ}
 use Rattle.game_core.specs.Limits.{most_rows}
-use Rattle.sequence_forms.specs.Sides.{Side}
 use Rattle.sequence_data.specs.Data.{SideData, side_of, IsSideData}
 use Rattle.zero_sum_lp.specs.Programs.{constraints, columns_of, IsProgramOf, price_one, price_two, raw_one, raw_two}
 use Rattle.lex_tableau.specs.Rows.{WholeTableau, IsTableau, tableau}
@@ -32,10 +31,6 @@ abbrev pub second_raw : Program → ℕ → ℚ
 second_raw o = raw_two (side_of o.first) (side_of o.second) (tableau o.tableau)
 
 -- ---- programs and optima
--- constraints and columns together
-abbrev pub program_size : Side → Side → ℕ
-program_size rows columns = constraints rows columns + columns_of rows columns
-
 -- a tableau is the start of the program of these sides, for some gains
 pub record IsStartFor (first second : SideData) (n : WholeTableau) : Type 0 where
   pub gain : ℕ → ℕ → ℚ

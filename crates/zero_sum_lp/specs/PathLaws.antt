@@ -28,7 +28,8 @@ PathsGoOn =
     ⊎ ((c : ℕ) × (IsEntering g.rated t c
     × ((r : ℕ) × IsLexicographicRow g.rated g.rated g.start.basic t c r)))
 
--- The path is determined: one tableau after each number of steps, and none after an optimal one.
+-- The path is determined: at most one tableau after each number of steps, and none after an
+-- optimal one.
 pub record PathsAreDetermined : Type 0 where
   pub once : (g : LinearProgram) (n : ℕ) (t u : Tableau) → IsFeasibleAndBounded g → IsAfter g n t
       → IsAfter g n u → Alike t u

@@ -10,7 +10,7 @@ use Rattle.rational.specs.Sum.{entry_at}
 use Rattle.zero_sum_lp.specs.declared.stop.PlanStop.{PlanStop}
 use Rattle.zero_sum_lp.specs.declared.stop.PlanStop.TheVariants.{Range}
 use Rattle.zero_sum_lp.specs.Parts.{Program, first_raw, second_raw}
-use Rattle.zero_sum_lp.specs.PlanPairs.{PlanPair}
+use Rattle.sequence_data.specs.PlanPairs.{PlanPair}
 use Rattle.zero_sum_lp.specs.Plans.{IsRaised, IsTrimmed}
 use Rattle.zero_sum_lp.specs.PlanSteps.{raising_steps, trimming_steps}
 
@@ -45,6 +45,6 @@ plans_of o = do
   second ← refused_by (Range 1) (trimmed_in (side_of o.second) (second_raw o))
   only (record { one = first; two = second })
 
--- There is one pair of plans, or one first step that does not fit.
+-- An optimum has at most one answer: both plans, or the first step that does not fit.
 abbrev pub PlansAreSingle : Type 0
 PlansAreSingle = (o : Program) → IsSideData o.first → IsSideData o.second → IsSingle (plans_of o)

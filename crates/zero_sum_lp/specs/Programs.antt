@@ -6,17 +6,18 @@ use Rattle.linear_systems.specs.Tableau.{Tableau}
 use Rattle.linear_systems.specs.Rows.{basic_solution, coefficient, Alike}
 use Rattle.sequence_forms.specs.Sides.{Side, sequences}
 use Rattle.sequence_forms.specs.Matrices.{set_row, right_side}
+use Rattle.sequence_data.specs.Sizes.{program_rows, program_columns, sizes_of}
 use Rattle.zero_sum_lp.specs.Paths.{LinearProgram}
 
 -- the constraints: the rows of the first player's plans, and a row for each sequence
 -- of the second
 abbrev pub constraints : Side → Side → ℕ
-constraints rows columns = suc rows.sets + sequences columns
+constraints rows columns = program_rows (sizes_of rows columns)
 
 -- the columns: one for each sequence of the first player, one for the whole game, and one for each
 -- set of the second player
 abbrev pub columns_of : Side → Side → ℕ
-columns_of rows columns = sequences rows + suc columns.sets
+columns_of rows columns = program_columns (sizes_of rows columns)
 
 -- row i of the first player's plans: E in the columns of x
 abbrev pub plan_cell : Side → ℕ → ℕ → ℚ

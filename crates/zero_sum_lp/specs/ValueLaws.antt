@@ -15,7 +15,7 @@ use Rattle.zero_sum_lp.specs.Parts.{Program, IsProgram, IsOptimumOf, first_price
 use Rattle.rational.specs.Sum.{entry_at}
 use Rattle.zero_sum_lp.specs.FormPrograms.{program_in}
 use Rattle.zero_sum_lp.specs.PlanStops.{plans_of}
-use Rattle.zero_sum_lp.specs.PlanPairs.{PlanPair}
+use Rattle.sequence_data.specs.PlanPairs.{PlanPair}
 use Rattle.zero_sum_lp.specs.ExactPaths.{linear_program}
 
 -- a program is that of a sequence form, where no gain is negative

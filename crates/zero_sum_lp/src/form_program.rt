@@ -2,8 +2,9 @@
 ghost use Rattle.std.specs.Prelude.{◌≡◌, ◌≤◌, map, IfOk};
 ghost use Rattle.answers.specs.Answers.{Gives};
 ghost use Rattle.game_core.specs.Limits.{most_rows};
+ghost use Rattle.sequence_data.specs.Sizes.{form_sizes, program_size};
 ghost use Rattle.zero_sum_lp.specs.declared.stop.LpStop.TheVariants as lp_stops;
-ghost use Rattle.zero_sum_lp.specs.FormPrograms.{IsSystemOf, gain_at, program_in, size_of, form_start_in};
+ghost use Rattle.zero_sum_lp.specs.FormPrograms.{IsSystemOf, gain_at, program_in, form_start_in};
 
 use crate::gains::gains;
 use crate::lp::Lp;
@@ -13,20 +14,19 @@ use crate::system::system;
 use frac128::{Frac, Memory};
 use game_core::{MOST_ROWS, TooLarge, What};
 use lex_tableau::System;
-use sequence_data::{SeqForm, dense};
+use sequence_data::{SeqForm, dense, program_size, side_counts};
 use std::alloc::Global;
 
 // How many rows and columns the program has.
 fn size(form: &SeqForm) -> u64
-    ensures { result ≡ size_of form.now }
+    ensures { result ≡ program_size (form_sizes form.now) }
 {
-    let sets = form.first().sets().len() as u64 + form.second().sets().len() as u64;
-    sets + form.first().sequences() as u64 + form.second().sequences() as u64 + 2
+    program_size(&side_counts(form.first(), form.second()))
 }
 
 // The system with the gains of the cells.
 fn system_of_form(alloc: Global, form: &SeqForm, gains: &[Frac]) -> Result<System, Memory>
-    requires few { size_of form.now ≤ most_rows }
+    requires few { program_size (form_sizes form.now) ≤ most_rows }
     requires gains { gains.now ≡ map (gain_at form.now.least_one) form.now.cells }
     ensures { IfOk result (IsSystemOf form.now) }
 {
@@ -38,7 +38,7 @@ fn system_of_form(alloc: Global, form: &SeqForm, gains: &[Frac]) -> Result<Syste
 
 // The program of a form with its system, and the room of its path.
 fn started(alloc: Global, form: &SeqForm, system: &System) -> Result<Lp, LpStop>
-    requires few { size_of form.now ≤ most_rows }
+    requires few { program_size (form_sizes form.now) ≤ most_rows }
     requires system { IsSystemOf form.now system.now }
     ensures { Gives lp_stops.Memory (form_start_in form.now) result }
 {

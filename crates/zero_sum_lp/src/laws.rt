@@ -25,17 +25,17 @@ pub fn programs_are_of_forms()
     ensures { ProgramsAreOfForms }
 {}
 
-/// A form has one program, or one reason why it has none.
+/// A form has at most one answer: its program, or the reason why it has none.
 pub fn programs_are_single()
     ensures { ProgramsAreSingle }
 {}
 
-/// A program's path has one end: the optimum, or the first step that does not fit.
+/// A program's path has at most one end: the optimum, or the first step that does not fit.
 pub fn ends_are_single()
     ensures { EndsAreSingle }
 {}
 
-/// An optimum has one pair of plans, or one first step that does not fit.
+/// An optimum has at most one answer: both plans, or the first step that does not fit.
 pub fn plans_are_single()
     ensures { PlansAreSingle }
 {}

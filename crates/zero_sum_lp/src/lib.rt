@@ -1,14 +1,15 @@
 //! The equilibrium of a constant-sum game by one linear program of two players' realisation plans.
 //!
-//! Callers may rely on: `program` and `Lp::solve` give the one program and the one end of its path,
-//! in at most 2^n pivots for variables below n; `optimal_plans_prove_the_value`.
+//! Callers may rely on: `program` and `Lp::solve` give the program and the end of its path, of which
+//! there is at most one each, in at most 2^n pivots for variables below n;
+//! `optimal_plans_prove_the_value`.
 //! Definitions: `specs::Paths` has linear programs and the path of the simplex method, `Programs`
 //! the program of plans, `Systems` its rows, `Plans` plans made of raw weights, `FormPrograms` what
 //! a form answers.
 //! Private words: `specs::PlanLists` and `EnteringColumns`, and the modules that make weights into
 //! plans.
 //! Lemmas for callers: `proofs::ProgramAnswerLemmas`, `PathEndLemmas` and `PlanAnswerLemmas`, that
-//! each is one.
+//! there is at most one of each.
 //! A change here touches: what `lp` answers and refuses, and `lp_texts_are_solutions`.
 #![tactic(auto)]
 
@@ -34,7 +35,8 @@ pub use laws::{
     optimal_plans_solve_trees, plans_are_single, programs_are_of_forms, programs_are_single,
 };
 pub use lp::Lp;
-pub use optimum::{Optimum, Plans};
+pub use optimum::Optimum;
+pub use sequence_data::Plans;
 pub use stop::{LpStop, NotConstant, PlanStop};
 
 /// Each step makes the objective row greater.
@@ -52,7 +54,7 @@ pub fn paths_go_on()
     ensures { PathsGoOn }
 {}
 
-/// After each number of steps there is one tableau.
+/// After each number of steps there is at most one tableau, and none after an optimal one.
 pub fn paths_are_determined()
     ensures { PathsAreDetermined }
 {}

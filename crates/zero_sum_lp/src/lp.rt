@@ -7,7 +7,7 @@ ghost use Rattle.game_core.specs.Limits.{most_rows};
 ghost use Rattle.lex_tableau.specs.Pivots.{pivot_number};
 ghost use Rattle.lex_tableau.specs.StartStops.{start_in};
 ghost use Rattle.lex_tableau.specs.declared.tableau.StartStop.TheVariants as start_stops;
-ghost use Rattle.zero_sum_lp.specs.Parts.{program_size};
+ghost use Rattle.sequence_data.specs.Sizes.{program_size, sizes_of};
 ghost use Rattle.zero_sum_lp.specs.Systems.{IsSystemFor};
 ghost use Rattle.zero_sum_lp.specs.Ends.{optimum_in};
 ghost use Rattle.zero_sum_lp.specs.ExactPaths.{linear_program, LeadsTo};
@@ -57,7 +57,7 @@ impl Lp {
     ) -> Result<Lp, StartStop>
         requires first_side { IsSideData first }
         requires second_side { IsSideData second }
-        requires few { program_size (side_of first) (side_of second) ≤ most_rows }
+        requires few { program_size (sizes_of (side_of first) (side_of second)) ≤ most_rows }
         requires program { (gain : ℕ → ℕ → ℚ) × IsSystemFor first second gain system.now }
         ensures first { IfOk result (λ lp. lp.first ≡ first) }
         ensures second { IfOk result (λ lp. lp.second ≡ second) }

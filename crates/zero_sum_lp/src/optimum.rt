@@ -16,7 +16,7 @@ use crate::stop::PlanStop;
 use crate::trimming::trim;
 use frac128::{Frac, Memory, Unfit};
 use lex_tableau::{Tableau, Work};
-use sequence_data::Side;
+use sequence_data::{Plans, Side};
 use std::alloc::Global;
 use std::marker::Model;
 
@@ -41,39 +41,6 @@ impl Model for Optimum {
     ghost invariant = { λ o.
         IsOptimum (record { first = o.first; second = o.second; tableau = o.work })
         × HasShape o.first o.second o.objective o.width };
-}
-
-/// Both players' plans: a weight for each sequence.
-#[derive(Debug, Drop)]
-pub struct Plans {
-    one: Vec<Frac>,
-    two: Vec<Frac>,
-}
-
-impl Model for Plans {
-    ghost use Rattle.zero_sum_lp.specs.PlanPairs.{PlanPair, code_of_plans};
-
-    ghost Value = { PlanPair };
-
-    ghost coded = { code_of_plans };
-
-    ghost view = { λ p. record { one = p.one.items; two = p.two.items } };
-}
-
-impl Plans {
-    /// The weights of the first player's sequences.
-    pub fn one(&self) -> &[Frac]
-        ensures { result.now ≡ self.now.one }
-    {
-        self.one.as_slice()
-    }
-
-    /// The weights of the second player's sequences.
-    pub fn two(&self) -> &[Frac]
-        ensures { result.now ≡ self.now.two }
-    {
-        self.two.as_slice()
-    }
 }
 
 // The raw weights, raised.
@@ -108,7 +75,7 @@ fn objective_entry(current: &Tableau, objective: usize, variable: u32) -> Frac
     ensures { result ≡ coefficient (tableau current.now) objective variable }
 {
     match current.column_of(variable) {
-        Some(col) => current.entry(objective, col),
+        Some(column) => current.entry(objective, column),
         None => Frac::zero(),
     }
 }
@@ -194,7 +161,7 @@ impl Optimum {
         };
         let raw = self.raw_two(alloc)?;
         match lessened(raw, &self.second) {
-            Ok(two) => Ok(Plans { one, two }),
+            Ok(two) => Ok(Plans::new(one, two)),
             Err(unfit) => Err(PlanStop::Range { player: 1, unfit }),
         }
     }

@@ -10,35 +10,35 @@ use lex_tableau::{PivotCount, Tableau, UnfitPivot, Work};
 use std::sync::ledger::Ledger;
 
 // Whether the entry of a row in a column is below 0.
-fn is_negative(current: &Tableau, row: usize, col: usize) -> bool
+fn is_negative(current: &Tableau, row: usize, column: usize) -> bool
     requires row_in { row < length current.now.basics }
-    requires col_in { col < length current.now.nonbasics }
-    ensures negative { result ≡ true → (tableau current.now).cell row col <ℚ zero_ℚ }
-    ensures otherwise { result ≡ false → zero_ℚ ≤ℚ (tableau current.now).cell row col }
+    requires column_in { column < length current.now.nonbasics }
+    ensures negative { result ≡ true → (tableau current.now).cell row column <ℚ zero_ℚ }
+    ensures otherwise { result ≡ false → zero_ℚ ≤ℚ (tableau current.now).cell row column }
 {
-    current.entry_sign(row, col) < 0
+    current.entry_sign(row, column) < 0
 }
 
 // The column to enter after one more was looked at.
 fn next_entering(
     current: &Tableau,
     objective: usize,
-    col: usize,
+    column: usize,
     best: Option<usize>,
 ) -> Option<usize>
     requires row_in { objective < length current.now.basics }
-    requires col_in { col < length current.now.nonbasics }
-    requires best { EntersFirst objective col (tableau current.now) best }
-    ensures { EntersFirst objective (suc col) (tableau current.now) result }
+    requires column_in { column < length current.now.nonbasics }
+    requires best { EntersFirst objective column (tableau current.now) best }
+    ensures { EntersFirst objective (suc column) (tableau current.now) result }
 {
-    if !is_negative(current, objective, col) {
+    if !is_negative(current, objective, column) {
         return best;
     }
     let Some(old) = best else {
-        return Some(col);
+        return Some(column);
     };
-    if current.nonbasic(col) < current.nonbasic(old) {
-        Some(col)
+    if current.nonbasic(column) < current.nonbasic(old) {
+        Some(column)
     } else {
         Some(old)
     }
@@ -51,8 +51,8 @@ fn entering(current: &Tableau, objective: usize, width: usize) -> Option<usize>
     ensures { EntersFirst objective width (tableau current.now) result }
 {
     let mut best = None;
-    for col in 0..width {
-        best = next_entering(current, objective, col, best);
+    for column in 0..width {
+        best = next_entering(current, objective, column, best);
     }
     best
 }
@@ -80,12 +80,12 @@ pub fn follow<L: Ledger>(
         (λ stop. (k : ℕ) × (pivots.new ≡ pivots.old + k) × (stop.number ≡ pivot_number k)) }
 {
     let mut number: u64 = 1;
-    while let Some(col) = entering(work.now(), objective, width) {
-        let Some(row) = work.now().ratio_row(col) else {
+    while let Some(column) = entering(work.now(), objective, width) {
+        let Some(row) = work.now().ratio_row(column) else {
             unreachable!();
         };
-        let variable = work.now().nonbasic(col);
-        match work.pivot(row, col, pivots) {
+        let variable = work.now().nonbasic(column);
+        match work.pivot(row, column, pivots) {
             Ok(()) => {}
             Err(unfit) => {
                 return Err(UnfitPivot {

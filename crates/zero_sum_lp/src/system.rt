@@ -4,7 +4,7 @@ ghost use Rattle.game_core.specs.Limits.{most_rows};
 ghost use Rattle.zero_sum_lp.specs.Programs.{columns_of, constraints, objective_cell, plan_cell};
 ghost use Rattle.sequence_data.specs.Data.{IsSideData, side_of};
 ghost use Rattle.sequence_forms.specs.Sides.{sequences};
-ghost use Rattle.zero_sum_lp.specs.Parts.{program_size};
+ghost use Rattle.sequence_data.specs.Sizes.{program_size, sizes_of};
 ghost use Rattle.lex_tableau.specs.Entries.{AreEntries, entry_of};
 ghost use Rattle.zero_sum_lp.specs.Systems.{IsSystemFor, listed_gain, listed_program, listed_reply};
 ghost use Rattle.sequence_data.specs.Matrices.{matrix_size};
@@ -15,41 +15,41 @@ use sequence_data::{Side, set_entry};
 use std::alloc::Global;
 
 // A row of the first player's plans.
-fn plan_entry(first: &Side, row: usize, col: usize) -> Frac
+fn plan_entry(first: &Side, row: usize, column: usize) -> Frac
     requires side { IsSideData first.now }
     requires row { row ≤ length first.now.sets }
-    ensures { result ≡ plan_cell (side_of first.now) row col }
+    ensures { result ≡ plan_cell (side_of first.now) row column }
 {
-    if col < first.sequences() as usize {
-        set_entry(first, row, col)
+    if column < first.sequences() as usize {
+        set_entry(first, row, column)
     } else {
         Frac::zero()
     }
 }
 
 // The row of a sequence of the second player.
-fn reply_entry(first: &Side, second: &Side, gains: &[Frac], sequence: usize, col: usize) -> Frac
+fn reply_entry(first: &Side, second: &Side, gains: &[Frac], sequence: usize, column: usize) -> Frac
     requires first_side { IsSideData first.now }
     requires second_side { IsSideData second.now }
     requires gains { length gains.now ≡ matrix_size first.now second.now }
     requires sequence { sequence < sequences (side_of second.now) }
-    requires col { col < columns_of (side_of first.now) (side_of second.now) }
-    ensures { result ≡ listed_reply first.now second.now gains.now sequence col }
+    requires column { column < columns_of (side_of first.now) (side_of second.now) }
+    ensures { result ≡ listed_reply first.now second.now gains.now sequence column }
 {
     let columns = first.sequences() as usize;
-    if col < columns {
-        gains[col * second.sequences() as usize + sequence].neg()
+    if column < columns {
+        gains[column * second.sequences() as usize + sequence].neg()
     } else {
-        set_entry(second, col - columns, sequence)
+        set_entry(second, column - columns, sequence)
     }
 }
 
 // The objective row.
-fn objective_entry(first: &Side, col: usize) -> Frac
+fn objective_entry(first: &Side, column: usize) -> Frac
     requires side { IsSideData first.now }
-    ensures { result ≡ objective_cell (side_of first.now) col }
+    ensures { result ≡ objective_cell (side_of first.now) column }
 {
-    if col == first.sequences() as usize {
+    if column == first.sequences() as usize {
         Frac::one().neg()
     } else {
         Frac::zero()
@@ -57,24 +57,24 @@ fn objective_entry(first: &Side, col: usize) -> Frac
 }
 
 // The entry of a row in a column, the right side last.
-fn entry(first: &Side, second: &Side, gains: &[Frac], row: usize, col: usize) -> Frac
+fn entry(first: &Side, second: &Side, gains: &[Frac], row: usize, column: usize) -> Frac
     requires first_side { IsSideData first.now }
     requires second_side { IsSideData second.now }
     requires gains { length gains.now ≡ matrix_size first.now second.now }
     requires row { row ≤ constraints (side_of first.now) (side_of second.now) }
-    requires col { col ≤ columns_of (side_of first.now) (side_of second.now) }
-    ensures { result ≡ entry_of (listed_program first.now second.now gains.now) row col }
+    requires column { column ≤ columns_of (side_of first.now) (side_of second.now) }
+    ensures { result ≡ entry_of (listed_program first.now second.now gains.now) row column }
 {
     let plan_rows = first.sets().len() + 1;
     let width = first.sequences() as usize + second.sets().len() + 1;
-    if col == width {
+    if column == width {
         if row == 0 { Frac::one() } else { Frac::zero() }
     } else if row < plan_rows {
-        plan_entry(first, row, col)
+        plan_entry(first, row, column)
     } else if row < plan_rows + second.sequences() as usize {
-        reply_entry(first, second, gains, row - plan_rows, col)
+        reply_entry(first, second, gains, row - plan_rows, column)
     } else {
-        objective_entry(first, col)
+        objective_entry(first, column)
     }
 }
 
@@ -108,7 +108,7 @@ pub fn system(alloc: Global, first: &Side, second: &Side, gains: &[Frac]) -> Res
     requires first_side { IsSideData first.now }
     requires second_side { IsSideData second.now }
     requires gains { length gains.now ≡ matrix_size first.now second.now }
-    requires few { program_size (side_of first.now) (side_of second.now) ≤ most_rows }
+    requires few { program_size (sizes_of (side_of first.now) (side_of second.now)) ≤ most_rows }
     ensures { IfOk result (IsSystemFor first.now second.now (listed_gain second.now gains.now)) }
 {
     let rated = 1 + first.sets().len() + second.sequences() as usize;

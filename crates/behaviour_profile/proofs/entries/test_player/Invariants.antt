@@ -1,4 +1,4 @@
-use Rattle.std.proofs.Common.{◌≡◌, ◌+◌, ◌-◌, ◌≤◌, All, length, take}
+use Rattle.std.proofs.Common.{◌≡◌, ◌+◌, ◌≤◌, All, length, take}
 use Rattle.std.specs.Prelude.{sum}
 use Rattle.game_core.specs.TreeGame.{game_of_tree}
 use Rattle.behaviour_profile.specs.EntryTests.{TestHolds, tests_from}
@@ -9,10 +9,8 @@ abbrev pub invariant-loop-set : goal.invariant-loop-set
 invariant-loop-set l =
     let own = own_counts (game_of_tree l.tree) l.player in
     record {
-      within : l.number ≤ length own;
-      place : l.here ≡ l.place + sum (take l.number own);
-      passed : All TestHolds (tests_from l.entries l.place l.group (take l.number own));
+      within : l.set-index ≤ length own;
+      place : l.here ≡ l.place + sum (take l.set-index own);
+      group : l.number ≡ l.group + l.set-index;
+      passed : All TestHolds (tests_from l.entries l.place l.group (take l.set-index own));
     }
-
-abbrev pub decreases-loop-set : goal.decreases-loop-set
-decreases-loop-set l = length (own_counts (game_of_tree l.tree) l.player) - l.number

@@ -1,6 +1,5 @@
-use Rattle.std.proofs.Common.{◌≡◌, ◌-◌, length, map}
+use Rattle.std.proofs.Common.{◌≡◌, map}
 use Rattle.std.specs.Prelude.{sum}
-use Rattle.game_theory.specs.OwnSets.{own_sets}
 use Rattle.game_core.specs.TreeGame.{game_of_tree}
 use Rattle.behaviour_profile.specs.EntryStarts.{AreStartsOf}
 use Rattle.behaviour_profile.proofs.EntryStartLemmas.{sets_to}
@@ -10,8 +9,5 @@ use Rattle.behaviour_profile.proofs.starts.write_starts.Given as goal
 abbrev pub invariant-loop-set : goal.invariant-loop-set
 invariant-loop-set l =
     let t = game_of_tree l.tree in
-    let sets = sets_to t l.player l.place in
+    let sets = sets_to t l.player l.set-index in
     (l.next ≡ sum (map t.actions sets)) × AreStartsOf t sets l.starts
-
-abbrev pub decreases-loop-set : goal.decreases-loop-set
-decreases-loop-set l = length (own_sets (game_of_tree l.tree) l.player) - l.place

@@ -13,7 +13,7 @@ push_row-requires-clause-strategy c =
 pub returns-then-len-gt-MOST_TEXT-clause-long : goal.returns-then-len-gt-MOST_TEXT-clause-long
 returns-then-len-gt-MOST_TEXT-clause-long c _ =
     let l = c.args.axes.now in
-    let row = row_text l.style l.table.now l.row l.column c.args.choice.now in
+    let row = row_text l.style l.table.now l.row l.column c.args.profile.now in
     let k = c.loop-strategy.strategy in
     let n = strategy_count l.table.now l.row in
     let below : k + 1 ≤ n = omega (arith, c.strategy_count-strategy-end.ensures.count) in
@@ -24,10 +24,10 @@ returns-then-len-gt-MOST_TEXT-clause-long c _ =
 pub loop-strategy-preserved : goal.loop-strategy-preserved
 loop-strategy-preserved c =
     let l = c.args.axes.now in
-    each-next (row_text l.style l.table.now l.row l.column c.args.choice.now) c.args.text.now.items c.loop-strategy.text.items _ c.loop-strategy.strategy c.loop-strategy.invariant c.in_ok-push_row.ensures
+    each-next (row_text l.style l.table.now l.row l.column c.args.profile.now) c.args.text.now.items c.loop-strategy.text.items _ c.loop-strategy.strategy c.loop-strategy.invariant c.in_ok-push_row.ensures
 
 pub returns-clause-rows : goal.returns-clause-rows
 returns-clause-rows c =
     let l = c.args.axes.now in
     let all : c.loop-strategy.strategy ≡ strategy_count l.table.now l.row = omega (arith, c.strategy_count-strategy-end.ensures.count) in
-    c.loop-strategy.invariant ∙ ap (λ n. c.args.text.now.items ++ flat_map (row_text l.style l.table.now l.row l.column c.args.choice.now) (range_with_len 0 n)) all
+    c.loop-strategy.invariant ∙ ap (λ n. c.args.text.now.items ++ flat_map (row_text l.style l.table.now l.row l.column c.args.profile.now) (range_with_len 0 n)) all

@@ -5,4 +5,4 @@ use Rattle.convert_tables.proofs.cells.push_rows.Given as goal
 
 abbrev pub invariant-loop-strategy : goal.invariant-loop-strategy
 invariant-loop-strategy l =
-    l.text.items ≡ l.initial.text.items ++ flat_map (row_text l.axes.style l.axes.table.now l.axes.row l.axes.column l.choice) (range_with_len 0 l.strategy)
+    l.text.items ≡ l.initial.text.items ++ flat_map (row_text l.axes.style l.axes.table.now l.axes.row l.axes.column l.profile) (range_with_len 0 l.strategy)

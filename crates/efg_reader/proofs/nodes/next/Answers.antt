@@ -10,11 +10,11 @@ use Rattle.tree_grammar.specs.TreeParsing.{parse_choice, parse_at}
 use Rattle.efg_reader.proofs.OpenBranchLemmas.{same_room}
 use Rattle.efg_reader.proofs.NextStepLemmas.{may_stand, choice_refused, outcome_refused, node_added, few_sets_more, few_outcomes_more}
 use Rattle.tree_grammar.proofs.NodeStopLemmas.{MayStand}
-use Rattle.tree_grammar.proofs.ShortRestLemmas.{choice_leaves}
+use Rattle.tree_faults.proofs.ShortRestLemmas.{choice_leaves}
 use Rattle.efg_reader.proofs.nodes.next.Goals as goal
 
-pub choice-requires-clause-few : goal.choice-requires-clause-few
-choice-requires-clause-few c = omega (arith, c.builder.invariant.few_sets, c.nodes.invariant.few, ap (λ (n : PartialNodes). length n.list) c.nodes.view_is)
+pub node_front-requires-clause-few : goal.node_front-requires-clause-few
+node_front-requires-clause-few c = omega (arith, c.builder.invariant.few_sets, c.nodes.invariant.few, ap (λ (n : PartialNodes). length n.list) c.nodes.view_is)
 
 pub read_outcome-requires-clause-few : goal.read_outcome-requires-clause-few
 read_outcome-requires-clause-few c = omega (arith, c.builder.invariant.few_outcomes, c.nodes.invariant.few, ap (λ (n : PartialNodes). length n.list) c.nodes.view_is)
@@ -43,7 +43,7 @@ returns-in_err-outcomes c =
     let partial = tree_of c.builder.inside.nodes c.builder.inside.sets c.builder.inside.outcomes in
     let may : MayStand partial partial.branchings (bare c.args.tokens.now) = subst (λ (partial : PartialTree). MayStand partial partial.branchings (bare c.args.tokens.now)) (sym c.builder.view_is) (may_stand c.args.builder (bare c.args.tokens.now) c.requires.free c.requires.begins c.requires.room) in
     let number : c.len-number.result ≡ length partial.nodes = c.len-number.ensures ∙ c.nodes.inside.list.ok.0 ∙ ap (λ (n : PartialNodes). length n.list) c.nodes.view_is in
-    let step : UsedSet × List Token = ((c.in_ok-sets.sets, (c.in_ok-sets.choice.kind, c.in_ok-sets.choice.set)), bare c.in_ok-sets.following.now) in
+    let step : UsedSet × List Token = ((c.in_ok-sets.sets, (c.in_ok-sets.used.kind, c.in_ok-sets.used.set)), bare c.in_ok-sets.following.now) in
     let chosen : parse_choice c.args.players (length partial.nodes) partial.sets (bare c.args.tokens.now) ≡ Ok step = rw number at c.in_ok-sets.ensures in
     rw (p.1, p.2) (subst (λ (partial : PartialTree). IsStop (Refused c.in_err-outcomes.field-0.0) (parse_at c.args.players partial partial.branchings (bare c.args.tokens.now))) c.builder.view_is
     (outcome_refused c.args.players partial (bare c.args.tokens.now) c.in_err-outcomes.field-0.0 step may chosen c.in_err-outcomes.ensures))
@@ -52,7 +52,7 @@ pub invariant_of-result : goal.invariant_of-result
 invariant_of-result c =
     let partial = tree_of c.builder.inside.nodes c.builder.inside.sets c.builder.inside.outcomes in
     let number : c.len-number.result ≡ length partial.nodes = c.len-number.ensures ∙ c.nodes.inside.list.ok.0 ∙ ap (λ (n : PartialNodes). length n.list) c.nodes.view_is in
-    let step : UsedSet × List Token = ((c.in_ok-sets.sets, (c.in_ok-sets.choice.kind, c.in_ok-sets.choice.set)), bare c.in_ok-sets.following.now) in
+    let step : UsedSet × List Token = ((c.in_ok-sets.sets, (c.in_ok-sets.used.kind, c.in_ok-sets.used.set)), bare c.in_ok-sets.following.now) in
     let paid : (List PartialOutcome × Option ℕ) × List Token = ((c.in_ok-outcomes.outcomes, c.in_ok-outcomes.outcome), bare c.in_ok-outcomes.rest.now) in
     let chosen : parse_choice c.args.players (length partial.nodes) partial.sets (bare c.args.tokens.now) ≡ Ok step = rw number at c.in_ok-sets.ensures in
     let sets : length c.in_ok-sets.sets ≤ suc (length partial.sets) = few_sets_more c.args.players (length partial.nodes) partial.sets (bare c.args.tokens.now) step chosen in
@@ -67,7 +67,7 @@ returns c =
     let partial = tree_of c.builder.inside.nodes c.builder.inside.sets c.builder.inside.outcomes in
     let may : MayStand partial partial.branchings (bare c.args.tokens.now) = subst (λ (partial : PartialTree). MayStand partial partial.branchings (bare c.args.tokens.now)) (sym c.builder.view_is) (may_stand c.args.builder (bare c.args.tokens.now) c.requires.free c.requires.begins c.requires.room) in
     let number : c.len-number.result ≡ length partial.nodes = c.len-number.ensures ∙ c.nodes.inside.list.ok.0 ∙ ap (λ (n : PartialNodes). length n.list) c.nodes.view_is in
-    let step : UsedSet × List Token = ((c.in_ok-sets.sets, (c.in_ok-sets.choice.kind, c.in_ok-sets.choice.set)), bare c.in_ok-sets.following.now) in
+    let step : UsedSet × List Token = ((c.in_ok-sets.sets, (c.in_ok-sets.used.kind, c.in_ok-sets.used.set)), bare c.in_ok-sets.following.now) in
     let paid : (List PartialOutcome × Option ℕ) × List Token = ((c.in_ok-outcomes.outcomes, c.in_ok-outcomes.outcome), bare c.in_ok-outcomes.rest.now) in
     let chosen : parse_choice c.args.players (length partial.nodes) partial.sets (bare c.args.tokens.now) ≡ Ok step = rw number at c.in_ok-sets.ensures in
     let more = tree_of c.in_ok-nodes.nodes c.in_ok-sets.sets c.in_ok-outcomes.outcomes in

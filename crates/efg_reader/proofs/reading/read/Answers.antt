@@ -2,7 +2,7 @@ use Rattle.std.proofs.Common.{◌≡◌, ◌<◌, ◌^◌, List, length, ◌∙�
 use Rattle.game_core.specs.TokenList.{bare}
 use Rattle.tree_grammar.specs.TreeParsing.{FrontPart, parse_front}
 use Rattle.efg_reader.proofs.FileStopLemmas.{all_short, few_of, front_stop, made_tree, nodes_stop, read_file, read_tree}
-use Rattle.tree_grammar.proofs.ShortRestLemmas.{front_leaves}
+use Rattle.tree_faults.proofs.ShortRestLemmas.{front_leaves}
 use Rattle.efg_reader.proofs.reading.read.Goals as goal
 use Rattle.game_core.specs.declared.token.Token.{Token}
 

@@ -6,7 +6,7 @@ use Rattle.std.specs.Ordering.{is_lt}
 use Rattle.rational.specs.Rational.{ℚ}
 use Rattle.game_core.specs.Table.{game_of}
 use Rattle.game_core.proofs.TableCountLemmas.{strategy_count-names}
-use Rattle.reduced_form.proofs.EliminationLemmas.{kept-all}
+use Rattle.kept_strategies.proofs.EliminationLemmas.{kept-all}
 use Rattle.enummixed.specs.Order.{pair_order}
 use Rattle.enummixed.specs.ExtremeText.{IsExtremeEquilibriaText}
 use Rattle.enummixed.specs.Pairs.{pairs_of}

@@ -9,4 +9,4 @@ pub loop-player-preserved : goal.loop-player-preserved
 loop-player-preserved c =
     let f = own_sets (game_of_tree c.args.tree.now) in
     let i = c.loop-player.player in
-    c.in_ok-push_own_sets.ensures ∙ ap (λ v. v ++ f i) c.loop-player.invariant ∙ sym (made-next f i) ∙ ap (λ n. flat_map f (range_with_len 0 n)) (sym (add-one i))
+    c.in_ok-extend_from_slice.ensures.items ∙ ap (λ own. c.loop-player.sets.items ++ own) c.sets_of.ensures ∙ ap (λ v. v ++ f i) c.loop-player.invariant ∙ sym (made-next f i) ∙ ap (λ n. flat_map f (range_with_len 0 n)) (sym (add-one i))

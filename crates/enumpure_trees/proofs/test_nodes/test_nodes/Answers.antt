@@ -1,4 +1,4 @@
-use Rattle.std.proofs.Common.{IfOk, sym, subst}
+use Rattle.std.proofs.Common.{sym, subst}
 use Rattle.std.proofs.lemmas.Result.{IfOk-weaker}
 use Rattle.game_core.specs.TreeGame.{game_of_tree}
 use Rattle.enumpure_trees.specs.TestNodes.{AreTestNodes}

@@ -9,5 +9,5 @@ returns g c =
     let f = c.map.result.f in
     let h = c.in_ok-counts.ensures in
     let chain = h.1 in
-    h.2 ∙ slice-map chain.0 c.args.first.now (chain.1 ∙ slice) (partners f.0.now f.2.now f.3.now) h.0 chain.2
-    ∙ ap (λ f. map (partners f.0.now f.2.now f.3.now) c.args.first.now) c.map.ensures.f
+    h.2 ∙ slice-map chain.0 c.args.first.now (chain.1 ∙ slice) (partners f.0.now.all f.0.now.low.now f.0.now.high.now) h.0 chain.2
+    ∙ ap (λ f. map (partners f.0.now.all f.0.now.low.now f.0.now.high.now) c.args.first.now) c.map.ensures.f

@@ -7,6 +7,6 @@ use Rattle.label_pairing.proofs.pairing.collected.Given as goal
 
 abbrev pub invariant-loop-i : goal.invariant-loop-i
 invariant-loop-i l = record {
-  pairs : (second : List MarkedPoint) → AreWords second l.low l.high → l.pairs.items ≡ rows l.all (marks_of l.first) second l.i;
-  room : length l.found.items ≡ length l.low;
+  pairs : (second : List MarkedPoint) → AreWords second l.candidates.low.now l.candidates.high.now → l.pairs.items ≡ rows l.candidates.all (marks_of l.first) second l.i;
+  room : length l.found.items ≡ length l.candidates.low.now;
 }

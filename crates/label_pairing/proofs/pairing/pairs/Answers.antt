@@ -1,10 +1,9 @@
-use Rattle.std.proofs.Common.{◌≡◌, ◌<◌, ◌^◌, ◌∙◌, inl, inr, Ok, Err, refl, length, map, get_or, sym, ap, ap₂, subst, arith}
+use Rattle.std.proofs.Common.{◌≡◌, ◌<◌, ◌^◌, ◌∙◌, inl, inr, Ok, Err, refl, length, get_or, sym, ap, subst, arith}
 use Rattle.std.specs.Prelude.{sum}
 use Rattle.std.proofs.lemmas.List.{length-map}
 use Rattle.std.proofs.lemmas.Result.{err_from_is_err_and}
 use Rattle.basis_enum.specs.Vertices.{marks_of}
 use Rattle.basis_enum.specs.declared.vertex.Vertex.{Vertex}
-use Rattle.label_pairing.specs.Matches.{partner_count}
 use Rattle.label_pairing.specs.Pairs.{all_pairs, most_pairs}
 use Rattle.game_core.specs.Limits.{within}
 use Rattle.game_core.specs.declared.too_large.What.TheVariants as what
@@ -18,9 +17,7 @@ pair_count-count-requires g c =
     subst (λ counts. sum counts < 2 ^ 64) (sym (c.deref-3.ensures.value ∙ c.in_ok-counts.ensures)) (partners_fit c.args.all c.deref.result.now c.deref-2.result.now c.args.first.now c.requires.few_first few)
 
 pub collected-requires-clause-counts : goal.collected-requires-clause-counts
-collected-requires-clause-counts g c =
-    c.deref-6.ensures.value ∙ c.in_ok-counts.ensures
-    ∙ ap₂ (λ low high. map (λ (vertex : Vertex). partner_count vertex.mask c.args.all low high) c.args.first.now) (c.deref.ensures.value ∙ sym c.deref-4.ensures.value) (c.deref-2.ensures.value ∙ sym c.deref-5.ensures.value)
+collected-requires-clause-counts g c = c.deref-4.ensures.value ∙ c.in_ok-counts.ensures
 
 pub returns-in_err-within : goal.returns-in_err-within
 returns-in_err-within g c =
@@ -34,5 +31,5 @@ pub returns : goal.returns
 returns g c =
     let marks = marks_of c.args.second.now in
     let so_many : c.pair_count-count.result ≡ length (all_pairs c.args.all (marks_of c.args.first.now) marks) = c.pair_count-count.ensures ∙ ap sum (c.deref-3.ensures.value ∙ c.in_ok-counts.ensures) ∙ pairs-counted c.args.all c.deref.result.now c.deref-2.result.now marks (words_of c.args.second.now c.deref.result.now c.deref-2.result.now (c.deref.ensures.value ∙ c.in_ok-low.ensures) (c.deref-2.ensures.value ∙ c.in_ok-high.ensures)) c.args.first.now in
-    let are_all : c.in_ok-collected.field-0.items ≡ all_pairs c.args.all (marks_of c.args.first.now) marks = c.in_ok-collected.ensures marks (words_of c.args.second.now c.deref-4.result.now c.deref-5.result.now (c.deref-4.ensures.value ∙ c.in_ok-low.ensures) (c.deref-5.ensures.value ∙ c.in_ok-high.ensures)) in
+    let are_all : c.in_ok-collected.field-0.items ≡ all_pairs c.args.all (marks_of c.args.first.now) marks = c.in_ok-collected.ensures marks (words_of c.args.second.now c.deref.result.now c.deref-2.result.now (c.deref.ensures.value ∙ c.in_ok-low.ensures) (c.deref-2.ensures.value ∙ c.in_ok-high.ensures)) in
     (tt, subst (λ n. ¬ (most_pairs < n)) so_many c.in_ok-within.ensures, ap Ok are_all)

@@ -19,8 +19,8 @@ pub returns : goal.returns
 returns c =
     let x_is = c.sequences-rows.ensures ∙ ap (λ (s : SideData). s.sequences) c.first.ensures.side in
     let y_is = c.sequences-columns.ensures ∙ ap (λ (s : SideData). s.sequences) c.second.ensures.side in
-    let second_holds : HoldsNumbers c.sequences-rows.result c.sequences-columns.result (placed c.cells.result.now c.args.two.now) c.in_ok-second.second.items =
-    subst (λ (xs : List Cell). HoldsNumbers c.sequences-rows.result c.sequences-columns.result (placed xs c.args.two.now) c.in_ok-second.second.items) (c.cells-2.ensures.cells ∙ sym c.cells.ensures.cells) c.in_ok-second.ensures.entries in
+    let second_holds : HoldsNumbers c.sequences-rows.result c.sequences-columns.result (placed c.cells.result.now c.args.two.now) c.in_ok-two.two.items =
+    subst (λ (xs : List Cell). HoldsNumbers c.sequences-rows.result c.sequences-columns.result (placed xs c.args.two.now) c.in_ok-two.two.items) (c.cells-2.ensures.cells ∙ sym c.cells.ensures.cells) c.in_ok-two.ensures.entries in
     system_read c.args.form.now c.cells.ensures.valid c.cells.result.now c.sequences-rows.result c.sequences-columns.result c.cells.ensures.cells x_is y_is
-    c.args.one.now c.args.two.now c.in_ok-first.first.items c.in_ok-second.second.items c.deref.result.now c.deref-2.result.now c.requires.one c.requires.two c.in_ok-first.ensures.entries second_holds c.deref.ensures.value c.deref-2.ensures.value
+    c.args.one.now c.args.two.now c.in_ok-one.one.items c.in_ok-two.two.items c.deref.result.now c.deref-2.result.now c.requires.one c.requires.two c.in_ok-one.ensures.entries second_holds c.deref.ensures.value c.deref-2.ensures.value
     c.system.result c.first-2.result.now c.second-2.result.now c.first-2.ensures.side c.second-2.ensures.side c.system.ensures

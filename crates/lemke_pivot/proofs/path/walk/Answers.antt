@@ -29,25 +29,25 @@ unreachable-requires-in_default-ratio_row g c =
     let l = c.loop-size in let o = l.invariant.path in
     let v = walk_value c.args.size c.args.first c.args.work.now c.requires.start l.work l.entering c.args.pivots.now l.pivots l.step o c.now.result.now (c.args.size + c.args.size + 1) c.value.result c.now.ensures.value (omega arith) c.value.ensures.value in
     let ne : basic_solution (tableau l.work) (z0_of c.args.size) ≢ zero_ℚ = λ e. true≢false (sym (c.is_zero.ensures.1 (v ∙ e)) ∙ c.if-is_zero.false) in
-    let col : IsNonbasicColumn l.work l.entering (Some c.in-Some.col) = subst (λ m. IsNonbasicColumn m l.entering (Some c.in-Some.col)) c.now-in-loop-size.ensures.value c.in-Some.ensures.column in
-    walk_never c.args.size c.args.first c.args.work.now c.requires.start l.work l.entering c.args.pivots.now l.pivots l.step o ne c.now-in-loop-size-2.result.now c.in-Some.col c.now-in-loop-size-2.ensures.value col c.in_default-ratio_row.ensures.best
+    let column : IsNonbasicColumn l.work l.entering (Some c.in-Some.column) = subst (λ m. IsNonbasicColumn m l.entering (Some c.in-Some.column)) c.now-in-loop-size.ensures.value c.in-Some.ensures.column in
+    walk_never c.args.size c.args.first c.args.work.now c.requires.start l.work l.entering c.args.pivots.now l.pivots l.step o ne c.now-in-loop-size-2.result.now c.in-Some.column c.now-in-loop-size-2.ensures.value column c.in_default-ratio_row.ensures.best
 
 pub pivot-requires-in-loop-size-clause-entry : goal.pivot-requires-in-loop-size-clause-entry
 pivot-requires-in-loop-size-clause-entry g c =
     let l = c.loop-size in let o = l.invariant.path in
     let v = walk_value c.args.size c.args.first c.args.work.now c.requires.start l.work l.entering c.args.pivots.now l.pivots l.step o c.now.result.now (c.args.size + c.args.size + 1) c.value.result c.now.ensures.value (omega arith) c.value.ensures.value in
     let ne : basic_solution (tableau l.work) (z0_of c.args.size) ≢ zero_ℚ = λ e. true≢false (sym (c.is_zero.ensures.1 (v ∙ e)) ∙ c.if-is_zero.false) in
-    let L = walk_best c.args.size c.args.first c.args.work.now c.requires.start l.work l.entering c.args.pivots.now l.pivots l.step o ne c.now-in-loop-size-2.result.now c.in-Some.col c.in-Some-ratio_row.row c.now-in-loop-size-2.ensures.value c.in-Some-ratio_row.ensures.best in
-    ne_zero_of_pos ((tableau l.work).cell c.in-Some-ratio_row.row c.in-Some.col) L.positive
+    let L = walk_best c.args.size c.args.first c.args.work.now c.requires.start l.work l.entering c.args.pivots.now l.pivots l.step o ne c.now-in-loop-size-2.result.now c.in-Some.column c.in-Some-ratio_row.row c.now-in-loop-size-2.ensures.value c.in-Some-ratio_row.ensures.best in
+    ne_zero_of_pos ((tableau l.work).cell c.in-Some-ratio_row.row c.in-Some.column) L.positive
 
 pub returns-in-Err-pivot-clause-unfit : goal.returns-in-Err-pivot-clause-unfit
 returns-in-Err-pivot-clause-unfit g c =
     let l = c.loop-size in let o = l.invariant.path in
     let v = walk_value c.args.size c.args.first c.args.work.now c.requires.start l.work l.entering c.args.pivots.now l.pivots l.step o c.now.result.now (c.args.size + c.args.size + 1) c.value.result c.now.ensures.value (omega arith) c.value.ensures.value in
     let ne : basic_solution (tableau l.work) (z0_of c.args.size) ≢ zero_ℚ = λ e. true≢false (sym (c.is_zero.ensures.1 (v ∙ e)) ∙ c.if-is_zero.false) in
-    let col : IsNonbasicColumn l.work l.entering (Some c.in-Some.col) = subst (λ m. IsNonbasicColumn m l.entering (Some c.in-Some.col)) c.now-in-loop-size.ensures.value c.in-Some.ensures.column in
-    walk_stops c.args.size c.args.first c.args.work.now c.requires.start l.work l.entering c.args.pivots.now l.pivots l.step o ne c.in-Some.col c.in-Some-ratio_row.row col
-    (walk_best c.args.size c.args.first c.args.work.now c.requires.start l.work l.entering c.args.pivots.now l.pivots l.step o ne c.now-in-loop-size-2.result.now c.in-Some.col c.in-Some-ratio_row.row c.now-in-loop-size-2.ensures.value c.in-Some-ratio_row.ensures.best)
+    let column : IsNonbasicColumn l.work l.entering (Some c.in-Some.column) = subst (λ m. IsNonbasicColumn m l.entering (Some c.in-Some.column)) c.now-in-loop-size.ensures.value c.in-Some.ensures.column in
+    walk_stops c.args.size c.args.first c.args.work.now c.requires.start l.work l.entering c.args.pivots.now l.pivots l.step o ne c.in-Some.column c.in-Some-ratio_row.row column
+    (walk_best c.args.size c.args.first c.args.work.now c.requires.start l.work l.entering c.args.pivots.now l.pivots l.step o ne c.now-in-loop-size-2.result.now c.in-Some.column c.in-Some-ratio_row.row c.now-in-loop-size-2.ensures.value c.in-Some-ratio_row.ensures.best)
     c.saturating_add-step.result c.in-Err-pivot.unfit (c.saturating_add-step.ensures ∙ ap pivot_number (add-one l.step) ∙ ap (λ k. pivot_number (suc k)) o.number ∙ pivot_number_next (suc (length o.earlier))) c.in-Err-pivot.ensures.unfit
 
 pub returns-then-is_zero-clause-path : goal.returns-then-is_zero-clause-path
@@ -80,7 +80,7 @@ complement_of-entering-requires-clause-positive g c =
     let l = c.loop-size in let o = l.invariant.path in
     let v = walk_value c.args.size c.args.first c.args.work.now c.requires.start l.work l.entering c.args.pivots.now l.pivots l.step o c.now.result.now (c.args.size + c.args.size + 1) c.value.result c.now.ensures.value (omega arith) c.value.ensures.value in
     let ne : basic_solution (tableau l.work) (z0_of c.args.size) ≢ zero_ℚ = λ e. true≢false (sym (c.is_zero.ensures.1 (v ∙ e)) ∙ c.if-is_zero.false) in
-    let L = walk_best c.args.size c.args.first c.args.work.now c.requires.start l.work l.entering c.args.pivots.now l.pivots l.step o ne c.now-in-loop-size-2.result.now c.in-Some.col c.in-Some-ratio_row.row c.now-in-loop-size-2.ensures.value c.in-Some-ratio_row.ensures.best in
+    let L = walk_best c.args.size c.args.first c.args.work.now c.requires.start l.work l.entering c.args.pivots.now l.pivots l.step o ne c.now-in-loop-size-2.result.now c.in-Some.column c.in-Some-ratio_row.row c.now-in-loop-size-2.ensures.value c.in-Some-ratio_row.ensures.best in
     subst (λ k. 0 < k) (sym (c.basic-leaving.ensures ∙ ap (λ (m : WholeTableau). (tableau m).basic c.in-Some-ratio_row.row) c.now-in-loop-size-3.ensures.value)) (walk_variable c.args.size c.args.first c.args.work.now c.requires.start l.work l.entering c.args.pivots.now l.pivots l.step o ne c.in-Some-ratio_row.row L.within).0
 
 pub loop-size-preserved : goal.loop-size-preserved
@@ -88,14 +88,14 @@ loop-size-preserved g c =
     let l = c.loop-size in let o = l.invariant.path in
     let v = walk_value c.args.size c.args.first c.args.work.now c.requires.start l.work l.entering c.args.pivots.now l.pivots l.step o c.now.result.now (c.args.size + c.args.size + 1) c.value.result c.now.ensures.value (omega arith) c.value.ensures.value in
     let ne : basic_solution (tableau l.work) (z0_of c.args.size) ≢ zero_ℚ = λ e. true≢false (sym (c.is_zero.ensures.1 (v ∙ e)) ∙ c.if-is_zero.false) in
-    let L = walk_best c.args.size c.args.first c.args.work.now c.requires.start l.work l.entering c.args.pivots.now l.pivots l.step o ne c.now-in-loop-size-2.result.now c.in-Some.col c.in-Some-ratio_row.row c.now-in-loop-size-2.ensures.value c.in-Some-ratio_row.ensures.best in
-    let col : IsNonbasicColumn l.work l.entering (Some c.in-Some.col) = subst (λ m. IsNonbasicColumn m l.entering (Some c.in-Some.col)) c.now-in-loop-size.ensures.value c.in-Some.ensures.column in
+    let L = walk_best c.args.size c.args.first c.args.work.now c.requires.start l.work l.entering c.args.pivots.now l.pivots l.step o ne c.now-in-loop-size-2.result.now c.in-Some.column c.in-Some-ratio_row.row c.now-in-loop-size-2.ensures.value c.in-Some-ratio_row.ensures.best in
+    let column : IsNonbasicColumn l.work l.entering (Some c.in-Some.column) = subst (λ m. IsNonbasicColumn m l.entering (Some c.in-Some.column)) c.now-in-loop-size.ensures.value c.in-Some.ensures.column in
     let left = c.basic-leaving.ensures ∙ ap (λ (m : WholeTableau). (tableau m).basic c.in-Some-ratio_row.row) c.now-in-loop-size-3.ensures.value in
     record {
       size = l.invariant.size;
       few = l.invariant.few;
       z0 = l.invariant.z0;
-      path = walk_next c.args.size c.args.first c.args.work.now c.requires.start l.work l.entering c.args.pivots.now l.pivots l.step o ne c.in-Some.col c.in-Some-ratio_row.row col L
+      path = walk_next c.args.size c.args.first c.args.work.now c.requires.start l.work l.entering c.args.pivots.now l.pivots l.step o ne c.in-Some.column c.in-Some-ratio_row.row column L
           c.pivot-in-loop-size.new.self c.complement_of-entering.result c.pivot-in-loop-size.new.pivots c.saturating_add-step.result (record { is_tableau = c.pivot-in-loop-size.ensures.valid; pivot = c.in_default-pivot.ensures.pivot; fits = c.in_default-pivot.ensures.fits }) (c.complement_of-entering.ensures ∙ ap (complement c.args.size) left) c.pivot-in-loop-size.ensures.counted (c.saturating_add-step.ensures ∙ ap pivot_number (add-one l.step) ∙ ap (λ k. pivot_number (suc k)) o.number ∙ pivot_number_next (suc (length o.earlier)));
     }
 

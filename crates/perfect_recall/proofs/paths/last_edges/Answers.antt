@@ -1,25 +1,20 @@
-use Rattle.std.proofs.Common.{◌≡◌, ◌+◌, ◌-◌, ap, subst, sym, length, arith}
+use Rattle.std.proofs.Common.{◌+◌, ◌<◌, ◌∙◌, None, ap, subst, sym, length, get_or, arith}
 use Rattle.std.proofs.lemmas.List.{length_push}
-use Rattle.game_theory.specs.Trees.{IsWithin}
 use Rattle.game_core.specs.TreeGame.{game_of_tree}
-use Rattle.game_core.proofs.ParentPathLemmas.{parent-on_path}
-use Rattle.perfect_recall.specs.LastEdges.{AreLast, AreLastEdges, IsEdgeBefore}
-use Rattle.perfect_recall.proofs.LastEdgeLemmas.{AreLastEdges-push}
+use Rattle.game_core.specs.LastMoves.{IsMoveBefore}
+use Rattle.perfect_recall.specs.LastEdges.{AreLastEdges, IsEdgeBefore}
+use Rattle.perfect_recall.proofs.LastEdgeLemmas.{AreLastEdges-push, edge-before}
 use Rattle.perfect_recall.proofs.paths.last_edges.Goals as goal
 
-pub go_up-requires-clause-above : goal.go_up-requires-clause-above
-go_up-requires-clause-above c =
+pub loop-last-preserved : goal.loop-last-preserved
+loop-last-preserved c =
     let g = game_of_tree c.args.tree.now in
-    let found = parent-on_path c.args.tree.now c.loop-node.node c.stands_for_game_tree.ensures.valid (omega arith) (omega (arith, ap length c.nodes-nodes.ensures.nodes)) in
-    subst (λ p. IsWithin g p (c.loop-node.node - 1)) (sym c.parent-above.ensures) found
-
-pub loop-node-preserved : goal.loop-node-preserved
-loop-node-preserved c =
-    let g = game_of_tree c.args.tree.now in
-    let more = AreLastEdges-push g c.loop-node.edges.items c.edge_at-in-loop-node.result c.loop-node.invariant.are_edges (subst (λ k. IsEdgeBefore g k c.edge_at-in-loop-node.result) (sym c.loop-node.invariant.one_for_each) c.edge_at-in-loop-node.ensures) in
-    let same : c.loop-node.node ≡ c.loop-node.node + 1 - 1 = omega arith in
+    let k = c.loop-last.last-index in
+    let inside : k < length c.in_ok-moves.moves.items = omega (arith, c.loop-last-test.true, ap length c.as_slice-list.ensures.value) in
+    let found : IsMoveBefore g k (get_or c.as_slice-list.result.now k None) = subst (λ list. IsMoveBefore g k (get_or list k None)) (sym c.as_slice-list.ensures.value) (c.in_ok-moves.ensures.moves k inside) in
+    let edge : IsEdgeBefore g k c.edge_of.result = subst (IsEdgeBefore g k) (sym c.edge_of.ensures) (edge-before g k _ found) in
+    let more = AreLastEdges-push g c.loop-last.edges.items c.edge_of.result c.loop-last.invariant.are_edges (subst (λ n. IsEdgeBefore g n c.edge_of.result) (sym c.loop-last.invariant.one_for_each) edge) in
     record {
-      one_for_each = omega (arith, ap length c.in_ok-push-2.ensures.items, length_push c.loop-node.edges.items c.edge_at-in-loop-node.result, c.loop-node.invariant.one_for_each);
-      are_edges = subst (AreLastEdges g) (sym c.in_ok-push-2.ensures.items) more;
-      last = subst (λ k. AreLast g k c.go_down.new.last) same c.go_down.ensures;
+      one_for_each = ap length c.in_ok-push.ensures.items ∙ length_push c.loop-last.edges.items c.edge_of.result ∙ ap (λ n. n + 1) c.loop-last.invariant.one_for_each;
+      are_edges = subst (AreLastEdges g) (sym c.in_ok-push.ensures.items) more;
     }

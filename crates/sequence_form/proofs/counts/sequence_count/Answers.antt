@@ -9,12 +9,12 @@ overflow_add-count c =
     let g = game_of_tree c.args.tree.now in
     let more = next-push g c.args.player c.loop-set.set (omega (arith, ap length c.sets-set-end.ensures.sets)) in
     let few = next-few c.args.tree.now c.args.player (c.loop-set.set + 1) c.stands_for_game_tree.ensures.valid (omega (arith, ap length c.sets-set-end.ensures.sets)) in
-    omega (arith, more, few, c.loop-set.invariant, c.own_actions.ensures.value)
+    omega (arith, more, few, c.loop-set.invariant, c.sequence_count_of.ensures.value)
 
 pub loop-set-preserved : goal.loop-set-preserved
 loop-set-preserved c =
     let more = next-push (game_of_tree c.args.tree.now) c.args.player c.loop-set.set (omega (arith, ap length c.sets-set-end.ensures.sets)) in
-    omega (arith, more, c.loop-set.invariant, c.own_actions.ensures.value)
+    omega (arith, more, c.loop-set.invariant, c.sequence_count_of.ensures.value)
 
 pub returns-clause-value : goal.returns-clause-value
 returns-clause-value c =

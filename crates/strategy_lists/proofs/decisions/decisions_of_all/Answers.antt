@@ -1,9 +1,10 @@
-use Rattle.std.proofs.Common.{◌≡◌, ◌<◌, ◌∙◌, ℕ, None, [], length, map, get_or, ap, subst, arith, add-one}
-use Rattle.std.proofs.lemmas.List.{length-map, length-replicate}
+use Rattle.std.proofs.Common.{◌≡◌, ◌<◌, ◌∙◌, ℕ, None, [], length, map, get_or, sym, ap, subst, arith, add-one}
+use Rattle.std.proofs.lemmas.List.{get_or_default, length-map, length-replicate}
 use Rattle.std.proofs.lemmas.List.Elements.{All-map}
 use Rattle.lists.proofs.OptionLemmas.{none_alone}
 use Rattle.lists.proofs.ElementLemmas.{get_or-copies}
 use Rattle.game_core.specs.TreeGame.{game_of_tree}
+use Rattle.game_core.specs.LastMoves.{IsLastAbove}
 use Rattle.strategy_lists.proofs.PlayerDecisionLemmas.{AreMadeByAll, AreMadeByAll-none, AreMadeByAll-nobody, AreMadeByAll-player, AreDecisionsOfAll-made, player-inside, latest-within, before-few}
 use Rattle.strategy_lists.proofs.decisions.decisions_of_all.Goals as goal
 use Rattle.strategy_lists.proofs.decisions.decisions_of_all.Goals.{in-Some+in_ok-number, in_default}
@@ -30,6 +31,13 @@ pub take-requires-clause-few : goal.take-requires-clause-few
 take-requires-clause-few c =
     let few = before-few (λ v. v.items) (game_of_tree c.args.tree.now) c.loop-node.node c.in-Some.player c.in-Some.set c.loop-node.numbers.items c.loop-node.latest.items c.loop-node.lists.items (c.trees_are_game_trees.ensures c.args.tree.now c.nodes-node-end.ensures.valid) c.loop-node.invariant (rw c.nodes-node-end.ensures.nodes at c.loop-node-test.true) c.in-Some.ensures c.index_mut-list.result.now c.index_mut-list.ensures.value in
     omega (arith, few, c.loop-node-test.true, c.nodes-node-end.ensures.valid.few_nodes, ap length c.nodes-node-end.ensures.nodes)
+
+pub decision_at-decision-requires-clause-last : goal.decision_at-decision-requires-clause-last
+decision_at-decision-requires-clause-last c =
+    let g = game_of_tree c.args.tree.now in
+    let inside : c.loop-node.node < length c.in_ok-moves.moves.items = omega (arith, c.in_ok-moves.ensures.so_many, c.loop-node-test.true, ap length c.nodes-node-end.ensures.nodes) in
+    subst (IsLastAbove g c.in-Some.player c.loop-node.node) (get_or_default c.in_ok-moves.moves.items c.loop-node.node None c.index-last.result.now inside ∙ sym c.index-last.ensures)
+    ((c.in_ok-moves.ensures.moves c.loop-node.node inside).of_player c.in-Some.player c.in-Some.set c.in-Some.ensures)
 
 pub loop-node-preserved : goal.loop-node-preserved
 loop-node-preserved c =

@@ -5,7 +5,7 @@ use Rattle.sequence_forms.specs.PlanBehaviour.{behaviour_of}
 use Rattle.game_core.specs.TreeGame.{game_of_tree}
 use Rattle.behaviour_profile.specs.Plans.{plan_behaviour}
 use Rattle.behaviour_profile.specs.declared.plans.BehaviourStop.TheVariants as behaviour_stop
-use Rattle.zero_sum_lp.specs.PlanPairs.{PlanPair}
+use Rattle.sequence_data.specs.PlanPairs.{PlanPair}
 use Rattle.refusals.specs.Told.{behaviour_refusal}
 use Rattle.refusals.specs.declared.refusal.Refusal.TheVariants as refusal
 use Rattle.two_player_tools.proofs.PlanEntryLemmas.{tree_entries_are, weights_of}

@@ -1,7 +1,6 @@
 use Rattle.std.proofs.Common.{◌∙◌, ap, length, subst₂}
 use Rattle.answers.specs.Answers.{Gives}
 use Rattle.refusals.specs.declared.refusal.Refusal.TheVariants as refusal
-use Rattle.two_player_tools.specs.PlanWeights.{pair_of}
 use Rattle.two_player_tools.specs.declared.forms.Method.TheVariants.{Complementarity}
 use Rattle.two_player_tools.proofs.TreeEntryLemmas.{entries_of, entries-of_plans, entries-stop}
 use Rattle.two_player_tools.proofs.perfect.pivot_behaviour.Goals as goal
@@ -13,8 +12,8 @@ returns-in_err-plans-clause-answer c =
 pub plan_behaviour-requires : goal.plan_behaviour-requires
 plan_behaviour-requires c = record {
   form = c.requires.2.2;
-  one = ap length c.deref.ensures.value ∙ c.in_ok-plans.ensures.one;
-  two = ap length c.deref-2.ensures.value ∙ c.in_ok-plans.ensures.two;
+  one = ap length c.one.ensures ∙ c.in_ok-plans.ensures.one;
+  two = ap length c.two.ensures ∙ c.in_ok-plans.ensures.two;
 }
 
 pub returns-clause-answer : goal.returns-clause-answer
@@ -22,5 +21,5 @@ returns-clause-answer c =
     let t = c.args.tree.now in
     let f = c.args.form.now in
     let r = c.plan_behaviour.result in
-    entries-of_plans Complementarity t f r c.requires (pair_of c.in_ok-plans.plans) c.in_ok-plans.ensures.answer
-    (subst₂ (λ one two. Gives refusal.Memory (entries_of t (record { one = one; two = two })) r) c.deref.ensures.value c.deref-2.ensures.value c.plan_behaviour.ensures.answer)
+    entries-of_plans Complementarity t f r c.requires c.in_ok-plans.plans c.in_ok-plans.ensures.answer
+    (subst₂ (λ one two. Gives refusal.Memory (entries_of t (record { one = one; two = two })) r) c.one.ensures c.two.ensures c.plan_behaviour.ensures.answer)

@@ -1,7 +1,7 @@
 use Rattle.std.proofs.Common.{◌∙◌, ap, length, refl, subst₂}
 use Rattle.answers.specs.Answers.{Gives, only}
 use Rattle.answers.proofs.AnswerLemmas.{gives_first}
-use Rattle.zero_sum_lp.specs.PlanPairs.{PlanPair}
+use Rattle.sequence_data.specs.PlanPairs.{PlanPair}
 use Rattle.refusals.specs.declared.refusal.Refusal.TheVariants as refusal
 use Rattle.two_player_tools.specs.Lp.{Solution, solution_in}
 use Rattle.two_player_tools.specs.Solved.{solution_of}

@@ -3,7 +3,7 @@ use Rattle.answers.specs.Answers.{Gives, refused_by}
 use Rattle.answers.proofs.AnswerLemmas.{gives_stop_as}
 use Rattle.behaviour_profile.specs.EntryStarts.{AreBehaviourEntries}
 use Rattle.refusals.specs.declared.refusal.Refusal.TheVariants as refusal
-use Rattle.two_player_tools.specs.Perfect.{cut_entries_in, entries_by, in_subgame, node_payoffs_fit, worth_refusal}
+use Rattle.two_player_tools.specs.Perfect.{cut_entries_in, entries_by, in_subgame, entry_payoffs_fit, worth_refusal}
 use Rattle.two_player_tools.proofs.KnownCutLemmas.{cut-done, cut-unpaid, cut-unsolved}
 use Rattle.two_player_tools.proofs.perfect.solve_cut.Goals.{then-root-eq0, else-root-eq0+in_ok-payoffs}
 use Rattle.two_player_tools.proofs.perfect.solve_cut.Goals as goal
@@ -25,7 +25,7 @@ returns-in_err-payoffs-clause-answer c =
     let stop = c.in_err-payoffs.field-0.0 in
     gives_stop_as refusal.Memory (cut_entries_in c.args.method c.args.root cut) stop c.from_residual.result (λ solved. solved.behaviour)
     (cut-unpaid c.args.method c.args.root cut entries stop (subst (λ tree. entries_by c.args.method tree (Ok entries)) c.tree.ensures c.in-Ok.ensures.answer) c.if-root-eq0.false
-    (subst (λ tree. Gives refusal.Memory (refused_by (worth_refusal c.args.root) (node_payoffs_fit tree entries)) (Err stop)) c.tree-else-root-eq0.ensures c.in_err-payoffs.ensures.stops)) c.from_residual.ensures.1
+    (subst (λ tree. Gives refusal.Memory (refused_by (worth_refusal c.args.root) (entry_payoffs_fit tree entries)) (Err stop)) c.tree-else-root-eq0.ensures c.in_err-payoffs.ensures.stops)) c.from_residual.ensures.1
 
 pub returns-clause-answer : goal.returns-clause-answer
 returns-clause-answer c =
@@ -34,7 +34,7 @@ returns-clause-answer c =
     let made : entries_by c.args.method cut.tree (Ok entries) = subst (λ tree. entries_by c.args.method tree (Ok entries)) c.tree.ensures c.in-Ok.ensures.answer in
     elim c.if-root-eq0.branch [
       | then-root-eq0 w ↦ cut-done c.args.method c.args.root cut entries made (inl w.if-root-eq0.true)
-      | else-root-eq0+in_ok-payoffs w ↦ cut-done c.args.method c.args.root cut entries made (inr (w.if-root-eq0.false, subst (λ tree. node_payoffs_fit tree entries (Ok tt)) w.tree-else-root-eq0.ensures w.in_ok-payoffs.ensures.stops))
+      | else-root-eq0+in_ok-payoffs w ↦ cut-done c.args.method c.args.root cut entries made (inr (w.if-root-eq0.false, subst (λ tree. entry_payoffs_fit tree entries (Ok tt)) w.tree-else-root-eq0.ensures w.in_ok-payoffs.ensures.stops))
     ]
 
 pub returns-clause-entries : goal.returns-clause-entries

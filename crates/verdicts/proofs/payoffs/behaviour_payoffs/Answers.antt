@@ -11,7 +11,7 @@ payoffs_on-requires c =
     let valid = c.stands_for_game_tree.ensures.game in
     let starts = subst (AreStarts t) (sym c.as_slice-2.ensures.value) c.in_ok-starts.ensures in
     record {
-      board = record {
+      played = record {
         tree = valid;
         children_are = subst (λ xs. AreChildren t (map (λ v. v.items) xs)) (sym c.as_slice.ensures.value) c.in_ok-children.ensures.children;
         starts_long = starts.long;

@@ -6,4 +6,4 @@ use Rattle.whole_rows.specs.Pivots.{place_number}
 use Rattle.whole_rows.proofs.rows.write_divided.Given as goal
 
 abbrev pub invariant-loop-place : goal.invariant-loop-place
-invariant-loop-place l = record { kept : (k : ℕ) → (k < l.own) ⊎ (l.own + l.place ≤ k) → get_or l.spare k (pos 0) ≡ get_or l.initial.spare k (pos 0); divided : (p : ℕ) → p < l.place → (from_place l.spare l.own p *ℤ pos l.by.value ≡ place_number (from_place l.numbers l.own) (from_place l.numbers l.first) l.column l.u l.v p) × PartFits (from_place l.spare l.own p); fits : (p : ℕ) → p < l.place → FitsShort (from_place l.numbers l.own) (from_place l.numbers l.first) l.column p }
+invariant-loop-place l = record { kept : (k : ℕ) → (k < l.pair.own) ⊎ (l.pair.own + l.place ≤ k) → get_or l.spare k (pos 0) ≡ get_or l.initial.spare k (pos 0); divided : (p : ℕ) → p < l.place → (from_place l.spare l.pair.own p *ℤ pos l.by.value ≡ place_number (from_place l.pair.numbers.now l.pair.own) (from_place l.pair.numbers.now l.pair.first) l.pair.column l.u l.v p) × PartFits (from_place l.spare l.pair.own p); fits : (p : ℕ) → p < l.place → FitsShort (from_place l.pair.numbers.now l.pair.own) (from_place l.pair.numbers.now l.pair.first) l.pair.column p }

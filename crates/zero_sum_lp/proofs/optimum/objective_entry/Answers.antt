@@ -7,7 +7,7 @@ use Rattle.zero_sum_lp.proofs.optimum.objective_entry.Goals as goal
 pub returns-in-Some : goal.returns-in-Some
 returns-in-Some c =
     let t = tableau c.args.current.now in
-    c.entry.ensures.value ∙ sym (coefficient_cell t c.args.objective c.in-Some.col c.column_of.ensures.valid.reached.reached.proper c.requires.row_in c.in-Some.ensures.column.0)
+    c.entry.ensures.value ∙ sym (coefficient_cell t c.args.objective c.in-Some.column c.column_of.ensures.valid.reached.reached.proper c.requires.row_in c.in-Some.ensures.column.0)
     ∙ ap (coefficient t c.args.objective) c.in-Some.ensures.column.1
 
 pub returns-in-None : goal.returns-in-None

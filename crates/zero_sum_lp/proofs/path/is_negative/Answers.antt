@@ -8,9 +8,9 @@ use Rattle.zero_sum_lp.proofs.path.is_negative.Goals as goal
 pub returns-clause-negative : goal.returns-clause-negative
 returns-clause-negative c =
     let back = to_z-of_z w8 c.entry_sign.result (record { sfits = c.entry_sign.type_inv }) in
-    λ h. below_by_sign ((tableau c.args.current.now).cell c.args.row c.args.col) _ (back ∙ c.entry_sign.ensures.value) (grind (arith, ints, h))
+    λ h. below_by_sign ((tableau c.args.current.now).cell c.args.row c.args.column) _ (back ∙ c.entry_sign.ensures.value) (grind (arith, ints, h))
 
 pub returns-clause-otherwise : goal.returns-clause-otherwise
 returns-clause-otherwise c =
     let back = to_z-of_z w8 c.entry_sign.result (record { sfits = c.entry_sign.type_inv }) in
-    λ h. above_by_sign ((tableau c.args.current.now).cell c.args.row c.args.col) _ (back ∙ c.entry_sign.ensures.value) (grind (arith, ints, h))
+    λ h. above_by_sign ((tableau c.args.current.now).cell c.args.row c.args.column) _ (back ∙ c.entry_sign.ensures.value) (grind (arith, ints, h))

@@ -24,8 +24,8 @@ invariant_of-result-2 c =
 pub returns-clause-grown : goal.returns-clause-grown
 returns-clause-grown c = λ outcomes.
     let kept = nodes_of c.self.inside.list.items c.self.inside.branchings.items in
-    subst (λ (nodes : PartialNodes). grown (tree_of nodes c.args.sets.now outcomes) c.args.choice.kind c.args.choice.set c.args.outcome ≡ Some (tree_of (nodes_of c.push.new.self.items c.add_branches.new.branchings.items) c.args.sets.now outcomes)) c.self.view_is
-    (grown_is kept c.args.sets.now outcomes c.args.choice.kind c.args.choice.set c.args.outcome c.in-Some.branching c.take_branch.new.branchings.items c.add_branches.new.branchings.items c.push.new.self.items c.len-number.result c.count-count.result (c.len-number.ensures ∙ c.self.inside.list.ok.0) c.count-count.ensures c.in-Some.ensures c.in_ok-add_branches.ensures c.in_ok-push.ensures.items)
+    subst (λ (nodes : PartialNodes). grown (tree_of nodes c.args.sets.now outcomes) c.args.used.kind c.args.used.set c.args.outcome ≡ Some (tree_of (nodes_of c.push.new.self.items c.add_branches.new.branchings.items) c.args.sets.now outcomes)) c.self.view_is
+    (grown_is kept c.args.sets.now outcomes c.args.used.kind c.args.used.set c.args.outcome c.in-Some.branching c.take_branch.new.branchings.items c.add_branches.new.branchings.items c.push.new.self.items c.len-number.result c.count-count.result (c.len-number.ensures ∙ c.self.inside.list.ok.0) c.count-count.ensures c.in-Some.ensures c.in_ok-add_branches.ensures c.in_ok-push.ensures.items)
 
 pub returns-clause-longer : goal.returns-clause-longer
 returns-clause-longer c =

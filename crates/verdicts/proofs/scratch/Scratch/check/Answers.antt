@@ -4,7 +4,7 @@ use Rattle.std.specs.Prelude.{MatchResult}
 use Rattle.game_theory.specs.Behaviour.{payoff}
 use Rattle.best_replies.specs.Replies.{reply_value}
 use Rattle.frac128.specs.Steps.{StepFits, IsFirstUnfit}
-use Rattle.verdicts.specs.TreeSides.{AreChosen}
+use Rattle.verdicts.specs.TreeReplies.{AreChosen}
 use Rattle.verdicts.specs.TreeSteps.{player_steps}
 use Rattle.game_core.specs.TreeGame.{game_of_tree}
 use Rattle.game_theory.specs.Children.{AreChildren}
@@ -12,8 +12,8 @@ use Rattle.behaviour_profile.specs.EntryStarts.{AreStarts}
 use Rattle.behaviour_profile.proofs.EntryStartLemmas.{starts-within, starts-read}
 use Rattle.verdicts.proofs.scratch.Scratch.check.Goals as goal
 
-pub check_player-requires-clause-board : goal.check_player-requires-clause-board
-check_player-requires-clause-board c =
+pub check_player-requires-clause-played : goal.check_player-requires-clause-played
+check_player-requires-clause-played c =
     let t = game_of_tree c.args.tree.now in
     let room = c.requires.scratch in
     let valid = c.stands_for_game_tree.ensures.game in

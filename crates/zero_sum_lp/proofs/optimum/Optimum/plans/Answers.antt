@@ -14,7 +14,7 @@ returns-in-Ok-lessened c = (
   (
     c.in-Ok-lessened.two.items,
     second_answer c.args.self.now c.self.inside.second c.in_ok-raw-2.raw.items c.self.invariant.0.second (Ok c.in-Ok-lessened.two.items) (ap (λ (p : Program). p.second) c.self.view_is) c.in_ok-raw-2.ensures c.in-Ok-lessened.ensures,
-    refl,
+    ap Ok c.new.ensures,
   ),
 )
 

@@ -1,0 +1,4 @@
+pub mod EliminationLemmas
+mod KeptCellLemmas
+mod KeptFormLemmas
+pub mod KeptSingleLemmas

@@ -1,0 +1,2 @@
+pub mod FaultKinds
+pub mod TreeFaults

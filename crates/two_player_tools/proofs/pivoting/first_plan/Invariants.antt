@@ -1,8 +1,0 @@
-use Rattle.std.proofs.Common.{◌≡◌}
-use Rattle.game_theory.specs.Lines.{listed}
-use Rattle.lemke_pivot.specs.Parts.{plan_one}
-use Rattle.two_player_tools.proofs.pivoting.first_plan.Given as goal
-
--- the weights so far
-abbrev pub invariant-loop-sequence : goal.invariant-loop-sequence
-invariant-loop-sequence l = l.plan.items ≡ listed l.sequence (plan_one l.solution)
