@@ -6,12 +6,12 @@ use Rattle.std.specs.Ordering.{nat_cmp}
 use Rattle.std.proofs.lemmas.List.Kept.{Contains-dedup_nat, Contains-from_dedup}
 use Rattle.std.proofs.lemmas.List.Sorted.{Contains-permutation, IsPermutation-sym}
 use Rattle.std.proofs.lemmas.Map.Keys.{IsStrictlyIncreasing-dedup}
-use Rattle.basis_enum.specs.Bases.{IsAscendingListOf}
+use Rattle.lists.specs.Listed.{AreListed}
 
-pub ascending_is : (xs sorted list : List ℕ) → IsPermutation xs sorted → IsSorted nat_cmp sorted → list ≡ dedup eqb sorted → IsAscendingListOf xs list
+pub ascending_is : (xs sorted list : List ℕ) → IsPermutation xs sorted → IsSorted nat_cmp sorted → list ≡ dedup eqb sorted → AreListed (Contains xs) list
 ascending_is xs sorted list p order e =
     record {
       ascending = subst IsStrictlyIncreasing (sym e) (IsStrictlyIncreasing-dedup sorted order);
-      listed = λ v c. subst (λ l. Contains l v) (sym e) (Contains-dedup_nat sorted v (Contains-permutation xs sorted v p c));
-      only = λ v c. Contains-permutation sorted xs v (IsPermutation-sym xs sorted p) (Contains-from_dedup eqb sorted v (subst (λ l. Contains l v) e c));
+      sound = λ v c. Contains-permutation sorted xs v (IsPermutation-sym xs sorted p) (Contains-from_dedup eqb sorted v (subst (λ l. Contains l v) e c));
+      complete = λ v c. subst (λ l. Contains l v) (sym e) (Contains-dedup_nat sorted v (Contains-permutation xs sorted v p c));
     }

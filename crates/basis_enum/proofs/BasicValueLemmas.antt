@@ -4,10 +4,11 @@ use Rattle.std.proofs.lemmas.Bool.{cases_eq}
 use Rattle.std.proofs.lemmas.List.{map_more, get_or-replicate, get_or-set_other, length-replicate, length-set}
 use Rattle.std.proofs.lemmas.Grind.{get_or-set_at}
 use Rattle.std.proofs.lemmas.List.Elements.{All-weaker}
+use Rattle.lists.specs.Listed.{IsIndexOf}
 use Rattle.rational.specs.Rational.{ℚ}
 use Rattle.lex_tableau.specs.Rows.{WholeTableau, tableau}
 use Rattle.linear_systems.specs.Rows.{basic_solution}
-use Rattle.basis_enum.specs.Marks.{AreRowsOf, AreUpTo, IsRowOf, values_of}
+use Rattle.basis_enum.specs.Marks.{AreRowsOf, AreUpTo, values_of}
 
 pub up_to_128 : (n : ℕ) (variables : List ℕ) → n ≤ 128 → AreUpTo n variables → AreUpTo 128 variables
 up_to_128 n variables few h = All-weaker (λ v. (0 < v) × (v ≤ n)) (λ v. (0 < v) × (v ≤ 128)) (λ v b. (b.0, omega (arith, few, b.1))) variables h
@@ -53,14 +54,19 @@ rows_more t n v old new is above most e h =
         subst (IsRowTo t (n + 1) (suc l)) (sym (ap (λ xs. get_or xs l None) e ∙ get_or-set_other old (v - 1) l (Some n) None f))
         (later l (get_or old l None) f (h.each l k))
 
+-- among all rows
+row-index : (t : WholeTableau) (v : ℕ) (row : Option ℕ) → IsRowTo t (length t.basics) v row → IsIndexOf t.basics v row
+row-index t v None h = h
+row-index t v (Some row) h = h
+
 -- after all rows
 pub rows_all : (t : WholeTableau) (n : ℕ) (rows : List (Option ℕ)) → n ≡ length t.basics → AreRowsTo t n rows → AreRowsOf t rows
-rows_all t n rows e h = record { size = h.size; each = λ l k. subst (λ m. IsRowTo t m (suc l) (get_or rows l None)) e (h.each l k) }
+rows_all t n rows e h = record { size = h.size; each = λ l k. row-index t (suc l) (get_or rows l None) (subst (λ m. IsRowTo t m (suc l) (get_or rows l None)) e (h.each l k)) }
 
 -- the row of a variable
-pub row_found : (t : WholeTableau) (rows : List (Option ℕ)) (v : ℕ) (r : Option ℕ) → AreRowsOf t rows → 0 < v → v ≤ 128 → get_or rows (v - 1) None ≡ r → IsRowOf t v r
+pub row_found : (t : WholeTableau) (rows : List (Option ℕ)) (v : ℕ) (r : Option ℕ) → AreRowsOf t rows → 0 < v → v ≤ 128 → get_or rows (v - 1) None ≡ r → IsIndexOf t.basics v r
 row_found t rows v r h above most e =
-    subst₂ (IsRowOf t) (let back : suc (v - 1) ≡ v = omega arith in back) e (h.each (v - 1) (omega arith))
+    subst₂ (IsIndexOf t.basics) (let back : suc (v - 1) ≡ v = omega arith in back) e (h.each (v - 1) (omega arith))
 
 -- ---- one variable more
 pub value_more : (t : WholeTableau) (xs : List ℕ) (i : ℕ) (q : ℚ) (old new : List ℚ)

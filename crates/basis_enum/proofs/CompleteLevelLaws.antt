@@ -8,13 +8,13 @@ use Rattle.std.proofs.lemmas.List.Elements.{Contains-append_left, Contains-appen
 use Rattle.lists.proofs.ElementLemmas.{index_of, in_cases, first_in, rest_in, mapped, unmapped}
 use Rattle.rational.specs.Rational.{ℚ}
 use Rattle.linear_systems.specs.Rows.{basic_solution, IsLexicographicRow}
-use Rattle.linear_systems.specs.Reached.{IsVariableOf, in_row, in_column}
+use Rattle.linear_systems.specs.RowEquivalence.{IsVariableOf, in_row, in_column}
 use Rattle.linear_systems.proofs.PivotLemmas.{eqb_same, eqb_apart}
 use Rattle.lex_tableau.specs.Ratio.{variable_at, IsLeavingRow}
 use Rattle.lex_tableau.specs.Rows.{WholeTableau, tableau, IsTableau, IsPivotOf}
 use Rattle.lex_tableau.specs.Starts.{LinearSystem, system_of, IsSystem, IsStartOf}
 use Rattle.linear_systems.specs.Points.{IsExtremePoint}
-use Rattle.linear_systems.specs.Reach.{IsFeasibleStart, IsLexReached, IsBasic, IsNeighbour, HasNeighbour, IsClosed}
+use Rattle.linear_systems.specs.LexFeasible.{IsFeasibleStart, IsLexFeasible, IsBasic, IsNeighbour, HasNeighbour, IsClosed}
 use Rattle.linear_systems.specs.ExtremePointLaws.{HasPoint}
 use Rattle.linear_systems.proofs.StartLemmas.{start_reached, alike_reached, pivot_reached}
 use Rattle.linear_systems.proofs.SolutionLemmas.{solution_extreme}
@@ -48,7 +48,7 @@ feasible s h e =
 -- what every reached tableau keeps
 pub record Held (s : LinearSystem) (t : WholeTableau) : Type 0 where
   pub is_tableau : IsTableau t
-  pub reached : IsLexReached 129 (system_of s) (tableau t)
+  pub reached : IsLexFeasible 129 (system_of s) (tableau t)
   pub starts : t.starts ≡ s.basics
   pub rated : t.rated ≡ length s.basics
 

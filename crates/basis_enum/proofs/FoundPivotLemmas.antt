@@ -1,7 +1,7 @@
 -- The pivots that are found from a tableau
 use Rattle.std.proofs.Common.{ℕ, ◌<◌, ◌≤◌, ◌≡◌, ◌+◌, ◌^◌, refl, sym, ap, subst, arith, inl, inr, List, [], ◌∷◌, ◌++◌, length, get_or, eq-or-lt_of_le}
 use Rattle.std.specs.List.{Contains}
-use Rattle.linear_systems.specs.Reached.{in_row, in_column}
+use Rattle.linear_systems.specs.RowEquivalence.{in_row, in_column}
 use Rattle.lex_tableau.specs.Rows.{WholeTableau, tableau, IsTableau}
 use Rattle.basis_enum.specs.Bases.{digit, basis_of, neighbour_of, HaveDigits}
 use Rattle.lex_tableau.specs.Ratio.{IsLeavingRow, variable_at}

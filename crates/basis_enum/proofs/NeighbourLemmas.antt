@@ -5,7 +5,7 @@ use Rattle.std.proofs.lemmas.List.{get_or-set_same, get_or-set_other, length-set
 use Rattle.std.specs.List.{Contains}
 use Rattle.std.proofs.lemmas.List.Sums.{sum_by-set}
 use Rattle.lists.proofs.ElementLemmas.{index_of}
-use Rattle.linear_systems.specs.Reached.{in_row, in_column}
+use Rattle.linear_systems.specs.RowEquivalence.{in_row, in_column}
 use Rattle.lex_tableau.specs.Rows.{WholeTableau, IsTableau}
 use Rattle.basis_enum.specs.Bases.{digit, basis_of, neighbour_of, AreVariables, HaveDigits}
 use Rattle.basis_enum.proofs.DigitLemmas.{basis_below}

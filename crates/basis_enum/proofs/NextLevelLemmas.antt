@@ -1,6 +1,6 @@
 -- The tableaux of the next level, one after the other
 use Rattle.std.proofs.Common.{ℕ, ◌<◌, ◌≤◌, ◌≡◌, ◌+◌, refl, sym, ap, ◌∙◌, subst, subst₂, arith, inl, inr, List, [], ◌∷◌, ◌++◌, length, get_or, map, take, eq-or-lt_of_le, All, Result, Ok, Err}
-use Rattle.std.specs.Prelude.{IfOk, OnOk}
+use Rattle.std.specs.Prelude.{Contains, IfOk, OnOk}
 use Rattle.std.proofs.Math.Seq.{get_or-append_seam}
 use Rattle.std.proofs.Math.ListN.{get_or-map}
 use Rattle.std.proofs.lemmas.List.{length-append, length-map, length-take-le, get_or_append_left, get_or_default, get_or-take}
@@ -13,7 +13,7 @@ use Rattle.frac128.specs.Steps.{StepFits, IsFirstUnfit}
 use Rattle.frac128.specs.FirstUnfit.{StepsFit, IsFirstUnfitOf}
 use Rattle.frac128.proofs.FirstUnfitLemmas.{first_unfit_here}
 use Rattle.basis_enum.specs.Levels.{Levels, Pivot, no_pivot, no_tableau, parent_of, AreNextPivots, IsAfterPivot, IsNextLevel, basis_count, most_bases, steps_of}
-use Rattle.basis_enum.specs.Bases.{IsAscendingListOf}
+use Rattle.lists.specs.Listed.{AreListed}
 use Rattle.basis_enum.specs.Reached.{IsUnfitPivot, next_level}
 use Rattle.basis_enum.specs.declared.stop.EnumerationStop.TheVariants.{Range}
 use Rattle.basis_enum.specs.declared.children.ChildStop.{ChildStop}
@@ -77,7 +77,7 @@ stop_at e n children (stops.Unfit place unfit) w c h =
 stop_at e n children stops.Memory w c h = tt
 
 -- the pivot that does not fit goes from this basis, with this variable entering it
-pub unfit_pivot : (e : Expansion) (k place : ℕ) (unfit : Unfit) (t : WholeTableau) (basics basis : List ℕ) → ArePivots e.level.now e.next.now → HaveEntering e.level.now e.next.now → IsChildStop e (stops.Unfit place unfit) → basics ≡ (get_or e.level.now (get_or e.next.now place no_found_pivot).parent t).basics → IsAscendingListOf basics basis → IsUnfitPivot k e.level.now (map pivot_of e.next.now) (Range k basis (get_or e.next.now place no_found_pivot).entering unfit)
+pub unfit_pivot : (e : Expansion) (k place : ℕ) (unfit : Unfit) (t : WholeTableau) (basics basis : List ℕ) → ArePivots e.level.now e.next.now → HaveEntering e.level.now e.next.now → IsChildStop e (stops.Unfit place unfit) → basics ≡ (get_or e.level.now (get_or e.next.now place no_found_pivot).parent t).basics → AreListed (Contains basics) basis → IsUnfitPivot k e.level.now (map pivot_of e.next.now) (Range k basis (get_or e.next.now place no_found_pivot).entering unfit)
 unfit_pivot e k place unfit t basics basis are enter stop is ascending =
     let m = get_or e.next.now place no_found_pivot in
     let among = Contains-get_or e.next.now place no_found_pivot stop.0 in
@@ -87,7 +87,7 @@ unfit_pivot e k place unfit t basics basis are enter stop is ascending =
       step = unfit;
       first = stop.1;
       basis = basis;
-      ascending = subst (λ b. IsAscendingListOf b basis) (is ∙ ap (λ u. u.basics) parent) ascending;
+      ascending = subst (λ b. AreListed (Contains b) basis) (is ∙ ap (λ u. u.basics) parent) ascending;
       told = ap (λ v. Range k basis v unfit) (enter m among);
     }
 

@@ -13,12 +13,12 @@ use Rattle.lex_tableau.specs.Starts.{LinearSystem}
 use Rattle.lex_tableau.specs.StartStops.{start_in}
 use Rattle.lex_tableau.proofs.TableauLemmas.{pivot_once}
 use Rattle.lex_tableau.proofs.SystemLemmas.{start_in-single}
-use Rattle.basis_enum.specs.Bases.{IsAscendingListOf}
+use Rattle.lists.specs.Listed.{AreListed}
 use Rattle.basis_enum.specs.Levels.{Levels, Pivot, AreNextPivots, IsAfterPivot, IsNextLevel, no_pivot, no_tableau, parent_of, entering, steps_of, basis_count, most_bases, first_level}
 use Rattle.basis_enum.specs.Reached.{AreReached, IsUnfitPivot, ReachedAreSingle, bases_within, level_of, next_level, next_pivots, pivots_fit, told_start}
 use Rattle.basis_enum.specs.declared.stop.EnumerationStop.{EnumerationStop}
 use Rattle.basis_enum.specs.declared.stop.EnumerationStop.TheVariants.{Range, TooLarge}
-use Rattle.lists.proofs.AscendingNumberLemmas.{increasing_same}
+use Rattle.lists.proofs.ListedLemmas.{listed-once}
 use Rattle.basis_enum.proofs.LevelLemmas.{level_valid}
 use Rattle.basis_enum.proofs.NextPivotLemmas.{pivots_once}
 
@@ -41,13 +41,10 @@ tableaux_once p pivots l m h g = levels_same l m (h.before ∙ sym g.before) (sa
         ∙ get_or_default m.level i no_tableau d (omega arith)
 
 -- ---- one pivot is the first that does not fit
-list_once : (vs xs ys : List ℕ) → IsAscendingListOf vs xs → IsAscendingListOf vs ys → xs ≡ ys
-list_once vs xs ys p q = increasing_same xs ys p.ascending q.ascending (λ v h. q.listed v (p.only v h)) (λ v h. p.listed v (q.only v h))
-
 told_once : (k : ℕ) (level : List WholeTableau) (pivots : List Pivot) (a b : EnumerationStop) → IsUnfitPivot k level pivots a → IsUnfitPivot k level pivots b → a ≡ b
 told_once k level pivots a b h g =
     let same = same_stop (steps_of level) pivots h.pivot g.pivot h.step g.step h.first g.first in
-    let lists : h.basis ≡ g.basis = list_once (parent_of level g.pivot).basics h.basis g.basis (subst (λ m. IsAscendingListOf (parent_of level m).basics h.basis) same.0 h.ascending) g.ascending in
+    let lists : h.basis ≡ g.basis = listed-once (Contains (parent_of level g.pivot).basics) h.basis g.basis (subst (λ m. AreListed (Contains (parent_of level m).basics) h.basis) same.0 h.ascending) g.ascending in
     h.told ∙ ap (λ b. Range k b (entering level h.pivot) h.step) lists ∙ ap₂ (λ m step. Range k g.basis (entering level m) step) same.0 same.1 ∙ sym g.told
 
 pivots_fit-single : (k : ℕ) (level : List WholeTableau) (pivots : List Pivot) → IsSingle (pivots_fit k level pivots)

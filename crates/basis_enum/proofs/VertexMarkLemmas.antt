@@ -12,12 +12,12 @@ use Rattle.std.proofs.lemmas.List.Kept.{Contains-from_dedup}
 use Rattle.std.proofs.lemmas.List.Sorted.{IsPermutation-map, IsPermutation-sym, Contains-permutation}
 use Rattle.rational.specs.Rational.{ℚ, zero_ℚ}
 use Rattle.linear_systems.specs.Tableau.{Tableau}
-use Rattle.linear_systems.specs.Reached.{IsVariableOf, in_row, in_column}
+use Rattle.linear_systems.specs.RowEquivalence.{IsVariableOf, in_row, in_column}
 use Rattle.lex_tableau.specs.Rows.{WholeTableau, tableau}
 use Rattle.lex_tableau.specs.Starts.{LinearSystem, system_of, IsSystem}
 use Rattle.linear_systems.specs.Points.{IsExtremePoint, IsNonzeroAt, AreEqualAt}
 use Rattle.linear_systems.specs.Rows.{basic_solution}
-use Rattle.linear_systems.specs.Reach.{IsLexReached}
+use Rattle.linear_systems.specs.LexFeasible.{IsLexFeasible}
 use Rattle.linear_systems.specs.Vertices.{MarkedPoint, IsZeroWord, IsMarkOf, IsVertexMark, AreVertices, mask_of}
 use Rattle.linear_systems.proofs.SmallStepLemmas.{extreme_alone}
 use Rattle.basis_enum.specs.Levels.{no_tableau}
@@ -32,7 +32,7 @@ use Rattle.basis_enum.proofs.OrderLemmas.{is_tie, dedup_ascends, dedup_keeps, ma
 
 -- the basic variables of a reached tableau are among the variables of the system
 pub reached_numbered : (s : LinearSystem) (t : WholeTableau) → IsEnumerable s
-    → IsLexReached 129 (system_of s) (tableau t) → AreUpTo (variable_count s) t.basics
+    → IsLexFeasible 129 (system_of s) (tableau t) → AreUpTo (variable_count s) t.basics
 reached_numbered s t e r = λ k d h.
     (e.numbered (get_or t.basics k d)).0
     (r.variables (get_or t.basics k d) (in_row k h (get_or_default t.basics k 0 d h)))

@@ -2,8 +2,7 @@
 -- variable 1 has the highest
 use Rattle.std.specs.Prelude.{ℕ, ◌↔◌, ◌-◌, ◌^◌, ◌<◌, ◌≤◌, ◌≡◌, List, length, get_or, slice_set}
 use Rattle.std.specs.List.{Contains, sum_by}
-use Rattle.std.specs.List.Sorted.{IsStrictlyIncreasing}
-use Rattle.linear_systems.specs.Reached.{IsVariableOf}
+use Rattle.linear_systems.specs.RowEquivalence.{IsVariableOf}
 use Rattle.lex_tableau.specs.Rows.{WholeTableau, tableau}
 
 -- what the digit of variable v counts
@@ -36,9 +35,3 @@ pub record ComesFirst (xs ys : List ℕ) : Type 0 where
   pub basic : ¬ (Contains xs variable)
   pub nonbasic : Contains ys variable
   pub before : (v : ℕ) → v < variable → Contains xs v ↔ Contains ys v
-
--- the ascending list of these variables
-pub record IsAscendingListOf (variables list : List ℕ) : Type 0 where
-  pub ascending : IsStrictlyIncreasing list
-  pub listed : (v : ℕ) → Contains variables v → Contains list v
-  pub only : (v : ℕ) → Contains list v → Contains variables v

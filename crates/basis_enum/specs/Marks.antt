@@ -1,6 +1,7 @@
 -- The marks of the basic solutions of tableaux
-use Rattle.std.specs.Prelude.{ℕ, suc, ◌<◌, ◌≤◌, ◌≡◌, ◌≢◌, List, length, get_or, map, Option, Some, None, MatchOption}
+use Rattle.std.specs.Prelude.{ℕ, suc, ◌<◌, ◌≤◌, ◌≡◌, List, length, get_or, map, Option, Some, None}
 use Rattle.std.specs.List.{All, Contains}
+use Rattle.lists.specs.Listed.{IsIndexOf}
 use Rattle.rational.specs.Rational.{ℚ}
 use Rattle.lex_tableau.specs.Rows.{WholeTableau, tableau}
 use Rattle.lex_tableau.specs.Starts.{LinearSystem, system_of}
@@ -15,16 +16,10 @@ use Rattle.basis_enum.specs.Vertices.{mark_of}
 abbrev pub AreUpTo : ℕ → List ℕ → Type 0
 AreUpTo n variables = All (λ v. (0 < v) × (v ≤ n)) variables
 
--- the row in which variable v is basic, or none
-abbrev pub IsRowOf : WholeTableau → ℕ → Option ℕ → Type 0
-IsRowOf t v o =
-    MatchOption o ((i : ℕ) → i < length t.basics → get_or t.basics i 0 ≢ v)
-    (λ row. (row < length t.basics) × (get_or t.basics row 0 ≡ v))
-
--- that of each variable up to 128, for variable v at place v - 1
+-- the row in which each variable up to 128 is basic, or none, for variable v at place v - 1
 pub record AreRowsOf (t : WholeTableau) (rows : List (Option ℕ)) : Type 0 where
   pub size : length rows ≡ 128
-  pub each : (l : ℕ) → l < 128 → IsRowOf t (suc l) (get_or rows l None)
+  pub each : (l : ℕ) → l < 128 → IsIndexOf t.basics (suc l) (get_or rows l None)
 
 -- the values of variables in the basic solution
 abbrev pub values_of : WholeTableau → List ℕ → List ℚ

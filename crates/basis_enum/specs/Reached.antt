@@ -1,6 +1,6 @@
 -- The bases of a system in stages: level 0 is the start's basis, and a level's new neighbours are
 -- the next level. Levels count from 0.
-use Rattle.std.specs.Prelude.{ℕ, zero, suc, ◌<◌, ◌≡◌, List, [], ◌++◌, length, Ok, Err}
+use Rattle.std.specs.Prelude.{ℕ, zero, suc, ◌<◌, ◌≡◌, List, [], ◌++◌, Contains, length, Ok, Err}
 use Rattle.answers.specs.Answers.{Answer, ◌>>=◌, ◌>>◌, only, such_that, refused_by, IsSingle}
 use Rattle.frac128.specs.Steps.{Step}
 use Rattle.frac128.specs.FirstUnfit.{IsFirstUnfitOf, all_fit}
@@ -11,7 +11,7 @@ use Rattle.lex_tableau.specs.Starts.{LinearSystem}
 use Rattle.lex_tableau.specs.StartStops.{start_in}
 use Rattle.lex_tableau.specs.declared.tableau.StartStop.{StartStop}
 use Rattle.lex_tableau.specs.declared.tableau.StartStop.TheVariants as starts
-use Rattle.basis_enum.specs.Bases.{IsAscendingListOf}
+use Rattle.lists.specs.Listed.{AreListed}
 use Rattle.basis_enum.specs.Levels.{Levels, Pivot, AreNextPivots, IsNextLevel, parent_of, entering, steps_of, basis_count, most_bases, first_level}
 use Rattle.basis_enum.specs.declared.stop.EnumerationStop.{EnumerationStop}
 use Rattle.basis_enum.specs.declared.stop.EnumerationStop.TheVariants.{Start, Range, TooLarge, Memory}
@@ -43,7 +43,7 @@ pub record IsUnfitPivot (k : ℕ) (level : List WholeTableau) (pivots : List Piv
   pub step : Step
   pub first : IsFirstUnfitOf (steps_of level) pivots pivot step
   pub basis : List ℕ
-  pub ascending : IsAscendingListOf (parent_of level pivot).basics basis
+  pub ascending : AreListed (Contains (parent_of level pivot).basics) basis
   pub told : stop ≡ Range k basis (entering level pivot) step
 
 -- the steps of these pivots from level k all fit

@@ -1,7 +1,7 @@
 -- The systems whose bases are enumerated
 use Rattle.std.specs.Prelude.{ℕ, ◌+◌, ◌<◌, ◌≤◌, ◌≡◌, ◌↔◌, length}
 use Rattle.rational.specs.Rational.{zero_ℚ, ◌≤ℚ◌}
-use Rattle.linear_systems.specs.Reached.{IsVariableOf}
+use Rattle.linear_systems.specs.RowEquivalence.{IsVariableOf}
 use Rattle.lex_tableau.specs.Starts.{LinearSystem, system_of}
 
 -- how many variables a system has

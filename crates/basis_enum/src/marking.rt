@@ -10,12 +10,13 @@ ghost use Rattle.basis_enum.specs.Systems.{IsEnumerable, variable_count};
 ghost use Rattle.basis_enum.specs.Vertices.{mark_of, marks_of};
 
 use crate::vertex::Vertex;
-use frac128::{Frac, Memory};
+use answers::Memory;
+use frac128::Frac;
 use lex_tableau::{System, Tableau};
 use std::alloc::Global;
 
-// How many masks a word has.
-const WORD: u128 = 1 << 64;
+// How many values a word of a mask has: 2^64.
+const TWO_TO_64: u128 = 1 << 64;
 
 // How many variables a system has at most.
 const MOST_VARIABLES: usize = 128;
@@ -51,14 +52,14 @@ fn words(mask: u128) -> [u64; 2]
     ensures low { get_or result 0 0 ≡ mask % 2 ^ 64 }
     ensures high { get_or result 1 0 ≡ mask / 2 ^ 64 }
 {
-    [(mask % WORD) as u64, (mask / WORD) as u64]
+    [(mask % TWO_TO_64) as u64, (mask / TWO_TO_64) as u64]
 }
 
 // The mask of a vertex as a number.
 fn number(vertex: &Vertex) -> u128
     ensures { result ≡ mask_of (mark_of vertex.now) }
 {
-    u128::from(vertex.mask[0]) + WORD * u128::from(vertex.mask[1])
+    u128::from(vertex.mask[0]) + TWO_TO_64 * u128::from(vertex.mask[1])
 }
 
 // The row of each basic variable, at the place of the variable: that of variable v is v - 1.

@@ -1,7 +1,8 @@
 // Why an enumeration has no vertices.
 ghost use Rattle.std.specs.Prelude.{◌≡◌};
 
-use frac128::{Memory, Unfit};
+use answers::Memory;
+use frac128::Unfit;
 use game_core::TooLarge;
 use lex_tableau::StartStop;
 use std::alloc::{AllocError, AllocFailed};

@@ -2,7 +2,7 @@
 ghost use Rattle.std.specs.Prelude.{◌≡◌, ◌<◌, ◌≤◌, ◌+◌, ℕ, [], ◌∷◌, length, map, IfErr, IfOk, OnOk, Err};
 ghost use Rattle.std.specs.List.{Contains};
 ghost use Rattle.std.specs.List.Sorted.{IsStrictlyIncreasing};
-ghost use Rattle.basis_enum.specs.Bases.{IsAscendingListOf};
+ghost use Rattle.lists.specs.Listed.{AreListed};
 ghost use Rattle.basis_enum.specs.Systems.{IsEnumerable};
 ghost use Rattle.basis_enum.specs.Children.{AreAllChildren, IsChildStop, IsExpandable};
 ghost use Rattle.basis_enum.specs.Found.{AreFoundIn};
@@ -84,7 +84,7 @@ fn start<G: Gate>(
 
 // These variables, in ascending order.
 fn ascending(alloc: Global, variables: &[u32]) -> Result<Vec<u32>, Memory>
-    ensures { IfOk result (λ v. IsAscendingListOf variables.now v.items) }
+    ensures { IfOk result (λ v. AreListed (Contains variables.now) v.items) }
 {
     let mut list = variables.to_vec(alloc)?;
     list.sort_unstable();

@@ -120,26 +120,26 @@ module _ (t : Tree) where
 
   -- valid behaviour is a valid profile
   valid-profile : (b : Behaviour) → IsValid t b → is_valid_profile (action_counts t) (by_place b (player_sets t))
-  valid-profile b v = record { not_negative = positive; sum_is_one = total }
+  valid-profile b v k l = record { not_negative = λ a. positive k a l; sum_is_one = total k l }
     where
       positive : (k a : ℕ) → k < length (action_counts t) → a < get_or (action_counts t) k 0 → zero_ℚ ≤ℚ by_place b (player_sets t) k a
       positive k a l h =
           (let within : k < length (player_sets t) = omega (arith, l, counts-long) in
           let o = below-tells t.players (get_or (player_sets t) k 0) (among-at (player_sets t) k within) in
-          v.not_negative (get_or (player_sets t) k 0) o.0 a o.2 o.3 (subst (λ n. a < n) (count-at k within) h))
+          (v (get_or (player_sets t) k 0) o.0 o.2 o.3).not_negative a (subst (λ n. a < n) (count-at k within) h))
 
       total : (k : ℕ) → k < length (action_counts t) → sum_to (get_or (action_counts t) k 0) (by_place b (player_sets t) k) ≡ one_ℚ
       total k l =
           (let within : k < length (player_sets t) = omega (arith, l, counts-long) in
           let o = below-tells t.players (get_or (player_sets t) k 0) (among-at (player_sets t) k within) in
-          ap (λ n. sum_to n (by_place b (player_sets t) k)) (count-at k within) ∙ v.sum_is_one (get_or (player_sets t) k 0) o.0 o.2 o.3)
+          ap (λ n. sum_to n (by_place b (player_sets t) k)) (count-at k within) ∙ (v (get_or (player_sets t) k 0) o.0 o.2 o.3).sum_is_one)
 
   -- the behaviour of a profile
   abbrev behaviour_of : Mixed → Behaviour
   behaviour_of m s = m (place_in (player_sets t) s)
 
   valid-behaviour : (m : Mixed) → IsTree t → is_valid_profile (action_counts t) m → IsValid t (behaviour_of m)
-  valid-behaviour m w v = record { not_negative = positive; sum_is_one = total }
+  valid-behaviour m w v s i l o = record { not_negative = λ a. positive s i a l o; sum_is_one = total s i l o }
     where
       found : (s i : ℕ) → s < t.sets → t.owner s ≡ Some i → (place_in (player_sets t) s < length (player_sets t)) × (get_or (player_sets t) (place_in (player_sets t) s) 0 ≡ s)
       found s i l o = placed (player_sets t) s (below-has t.players s i (w.owners_within s i l o) l o)
@@ -148,10 +148,10 @@ module _ (t : Tree) where
       size s i l o = (let f = found s i l o in count-at (place_in (player_sets t) s) f.0 ∙ ap t.actions f.1)
 
       positive : (s i a : ℕ) → s < t.sets → t.owner s ≡ Some i → a < t.actions s → zero_ℚ ≤ℚ behaviour_of m s a
-      positive s i a l o h = (let f = found s i l o in v.not_negative (place_in (player_sets t) s) a (omega (arith, f.0, counts-long)) (subst (λ n. a < n) (sym (size s i l o)) h))
+      positive s i a l o h = (let f = found s i l o in (v (place_in (player_sets t) s) (omega (arith, f.0, counts-long))).not_negative a (subst (λ n. a < n) (sym (size s i l o)) h))
 
       total : (s i : ℕ) → s < t.sets → t.owner s ≡ Some i → sum_to (t.actions s) (behaviour_of m s) ≡ one_ℚ
-      total s i l o = (let f = found s i l o in ap (λ n. sum_to n (behaviour_of m s)) (sym (size s i l o)) ∙ v.sum_is_one (place_in (player_sets t) s) (omega (arith, f.0, counts-long)))
+      total s i l o = (let f = found s i l o in ap (λ n. sum_to n (behaviour_of m s)) (sym (size s i l o)) ∙ (v (place_in (player_sets t) s) (omega (arith, f.0, counts-long))).sum_is_one)
 
 pub tested_behaviours : TestedEntriesAreBehaviours
 tested_behaviours = record { sound = sound; complete = complete }

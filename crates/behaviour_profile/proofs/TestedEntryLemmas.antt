@@ -1,11 +1,11 @@
 -- Entries whose tests are all passed are those of a valid mixed profile.
-use Rattle.std.proofs.Common.{ℕ, zero, suc, ◌+◌, ◌<◌, ◌≤◌, ◌≡◌, inl, inr, List, [], ◌∷◌, ◌++◌, All, length, get_or, take, drop, Ok, refl, sym, ap, ap₂, ◌∙◌, subst, arith, length-append, length-drop, get_or-drop, append_assoc, eq-or-lt_of_le, le_of_suc-le-suc}
+use Rattle.std.proofs.Common.{ℕ, zero, suc, ◌+◌, ◌<◌, ◌≤◌, ◌≡◌, inl, inr, List, [], ◌∷◌, ◌++◌, All, length, take, drop, Ok, refl, sym, ap, ap₂, ◌∙◌, subst, arith, length-append, length-drop, get_or-drop, append_assoc, eq-or-lt_of_le, le_of_suc-le-suc}
 use Rattle.std.specs.Prelude.{sum}
 use Rattle.std.proofs.lemmas.List.{get_or-append-add, get_or_append_left, take-append-drop}
 use Rattle.std.proofs.lemmas.List.Elements.{All-nil, All-cons, All-append, All-head, All-tail}
 use Rattle.lists.proofs.ElementLemmas.{All-left, All-right, made-next}
-use Rattle.rational.specs.Rational.{ℚ, ◌≤ℚ◌, zero_ℚ, one_ℚ}
-use Rattle.rational.specs.Sum.{sum_to, entry_at, IsDistribution}
+use Rattle.rational.specs.Rational.{ℚ, ◌≤ℚ◌, zero_ℚ}
+use Rattle.rational.specs.Sum.{entry_at, IsDistribution}
 use Rattle.rational.proofs.SumLemmas.{sum_to-same}
 use Rattle.game_theory.specs.Lines.{listed, entries}
 use Rattle.game_theory.specs.Mixed.{Mixed, IsValid, later}
@@ -76,21 +76,14 @@ first_group before following n f k l =
 
 module _ (n : ℕ) (sizes : List ℕ) (m : Mixed) where
   pub valid-first : IsValid (n ∷ sizes) m → IsDistribution n (m 0)
-  valid-first v = record { not_negative = λ k l. v.not_negative 0 k (omega arith) l; sum_is_one = v.sum_is_one 0 (omega arith) }
+  valid-first v = v 0 (omega arith)
 
   pub valid-later : IsValid (n ∷ sizes) m → IsValid sizes (later m)
-  valid-later v = record { not_negative = λ i s l h. v.not_negative (suc i) s (omega (arith, l)) h; sum_is_one = λ i l. v.sum_is_one (suc i) (omega (arith, l)) }
+  valid-later v i l = v (suc i) (omega (arith, l))
 
   pub valid-both : IsDistribution n (m 0) → IsValid sizes (later m) → IsValid (n ∷ sizes) m
-  valid-both h v = record { not_negative = positive; sum_is_one = total }
-    where
-      positive : (i s : ℕ) → i < length (n ∷ sizes) → s < get_or (n ∷ sizes) i 0 → zero_ℚ ≤ℚ m i s
-      positive zero s l k = h.not_negative s k
-      positive (suc i) s l k = v.not_negative i s (omega (arith, l)) k
-
-      total : (i : ℕ) → i < length (n ∷ sizes) → sum_to (get_or (n ∷ sizes) i 0) (m i) ≡ one_ℚ
-      total zero l = h.sum_is_one
-      total (suc i) l = v.sum_is_one i (omega (arith, l))
+  valid-both h v zero l = h
+  valid-both h v (suc i) l = v i (omega (arith, l))
 
 moved : (before following : List ℚ) (n : ℕ) (f : ℕ → ℚ) → before ++ (listed n f ++ following) ≡ (before ++ listed n f) ++ following
 moved before following n f = sym (append_assoc before (listed n f) following)
@@ -103,7 +96,7 @@ tests-moved : (before following : List ℚ) (n group : ℕ) (f : ℕ → ℚ) (s
 tests-moved before following n group f sizes = ap₂ (λ l p. tests_from l p group sizes) (moved before following n f) (place-moved before n f)
 
 passed-valid : (sizes : List ℕ) (before : List ℚ) (group : ℕ) (m : Mixed) → All TestHolds (tests_from (before ++ entries sizes m) (length before) group sizes) → IsValid sizes m
-passed-valid [] before group m h = record { not_negative = λ i s l k. absurd (omega (arith, l)); sum_is_one = λ i l. absurd (omega (arith, l)) }
+passed-valid [] before group m h = λ i l. absurd (omega (arith, l))
 passed-valid (n ∷ sizes) before group m h =
     (let list : List ℚ = before ++ (listed n (m 0) ++ entries sizes (later m)) in
     let head = All-left TestHolds (group_tests list (length before) group n) (tests_from list (length before + n) (suc group) sizes) h in

@@ -33,7 +33,6 @@ ghost use Rattle.behaviour_profile.specs.EntryTests.{
 use crate::Behaviour;
 use frac128::{Frac, Unfit};
 use game_core::Tree;
-use game_core::tree_parts::stands_for_game_tree;
 
 /// What is wrong with the entries of a profile. A group is one player's strategies, or the actions
 /// of one set; places and groups count from 0.
@@ -159,7 +158,7 @@ fn test_players(tree: &Tree, entries: &[Frac]) -> Result<(), ProfileFault>
     ensures { let counts = action_counts (game_of_tree tree.now) in
         refused_by fault_of (all_pass (tests_from entries.now 0 0 counts)) result }
 {
-    stands_for_game_tree(tree);
+    tree.stands_for_game_tree();
     let mut position = Position { place: 0, group: 0 };
     for player in 0..tree.players().len() {
         position = test_player(tree, player as u32, entries, position.place, position.group)?;

@@ -29,11 +29,12 @@ mod listed;
 mod plans;
 mod starts;
 
+use answers::Memory;
 pub use entries::{
     ProfileFault, profiles_are_single, test_group, tested_entries_are_behaviours,
     tested_entries_are_profiles,
 };
-use frac128::{Frac, Memory};
+use frac128::Frac;
 use game_core::{Tree, push_sure};
 pub use plans::{BehaviourStop, plan_behaviours_are_single};
 use reduced_form::Reduced;

@@ -5,9 +5,9 @@ ghost use Rattle.game_core.specs.TreeGame.{game_of_tree};
 ghost use Rattle.game_theory.specs.TreeEntries.{own_entries};
 
 use crate::Behaviour;
-use frac128::{Frac, Memory};
+use answers::Memory;
+use frac128::Frac;
 use game_core::Tree;
-use game_core::tree_parts::{action_count, stands_for_game_tree};
 use std::alloc::Global;
 
 // Adds the probabilities at a player's sets.
@@ -22,7 +22,7 @@ fn push_lists(
         (entries.new.items ≡ entries.old.items ++ own_entries (game_of_tree tree.now)
         (listed_behaviour (map (λ v. v.items) lists.now)) player) }
 {
-    stands_for_game_tree(tree);
+    tree.stands_for_game_tree();
     for set in tree.sets_of(player) {
         entries.extend_from_slice(lists[*set as usize].as_slice())?;
     }
@@ -62,8 +62,8 @@ impl Behaviour {
         ensures { (b : TreeBehaviour) → let t = game_of_tree tree.now in
             self.now ≡ tree_entries t b → result.now ≡ listed (t.actions set) (b set) }
     {
-        stands_for_game_tree(tree);
+        tree.stands_for_game_tree();
         let start = starts[set as usize];
-        &self.entries[start..start + action_count(tree, set as usize)]
+        &self.entries[start..start + tree.action_count(set as usize)]
     }
 }

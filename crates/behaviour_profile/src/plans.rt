@@ -31,7 +31,6 @@ ghost use Rattle.behaviour_profile.specs.Shares.{share_at, shares_in};
 use crate::Behaviour;
 use frac128::{Frac, Unfit};
 use game_core::Tree;
-use game_core::tree_parts::stands_for_game_tree;
 use sequence_data::{SeqForm, SetRow, Side};
 use std::alloc::{AllocFailed, Global};
 
@@ -133,7 +132,7 @@ fn push_plan(
     ensures steps { (plans : ℕ → ℕ → ℚ) → plans player ≡ entry_at plan.now
         → Gives stops.Memory (own_quotients_in tree.now plans player) result }
 {
-    stands_for_game_tree(tree);
+    tree.stands_for_game_tree();
     let sets = side.sets();
     for place in 0..sets.len() {
         let label = label(tree, player, place as u32);

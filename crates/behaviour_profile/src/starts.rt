@@ -3,9 +3,8 @@ ghost use Rattle.std.specs.Prelude.{◌≡◌, ◌+◌, ◌<◌, length, map, su
 ghost use Rattle.behaviour_profile.specs.EntryStarts.{AreStarts, AreStartsOf, sets_below};
 ghost use Rattle.game_core.specs.TreeGame.{game_of_tree};
 
-use frac128::Memory;
+use answers::Memory;
 use game_core::Tree;
-use game_core::tree_parts::{action_count, stands_for_game_tree};
 use std::alloc::Global;
 
 // Writes the places of the first entries of a player's sets, where those of the players before are
@@ -21,11 +20,11 @@ fn write_starts(tree: &Tree, player: u32, starts: &mut [usize], first: usize) ->
     ensures starts { let t = game_of_tree tree.now in
         AreStartsOf t (sets_below t (player + 1)) starts.new }
 {
-    stands_for_game_tree(tree);
+    tree.stands_for_game_tree();
     let mut next = first;
     for set in tree.sets_of(player) {
         starts[*set as usize] = next;
-        next += action_count(tree, *set as usize);
+        next += tree.action_count(*set as usize);
     }
     next
 }
@@ -34,7 +33,7 @@ fn write_starts(tree: &Tree, player: u32, starts: &mut [usize], first: usize) ->
 pub fn starts_of(alloc: Global, tree: &Tree) -> Result<Vec<usize>, Memory>
     ensures { IfOk result (λ starts. AreStarts (game_of_tree tree.now) starts.items) }
 {
-    stands_for_game_tree(tree);
+    tree.stands_for_game_tree();
     let mut starts = vec![in alloc; 0; tree.sets().len()]?;
     let mut next = 0;
     for player in 0..tree.players().len() {

@@ -148,4 +148,4 @@ best_choices-pay_most t b i choice other w recall best c =
 -- and no other behaviour does
 pub no_behaviour-pays_more : NoBehaviourPaysMore
 no_behaviour-pays_more t b other i choice w recall best valid alike =
-    pays-no_more t b other i choice w recall best (record { not_negative = λ s a l o m. valid.not_negative s i a l o m; sum_is_one = λ s l o. valid.sum_is_one s i l o }) alike
+    pays-no_more t b other i choice w recall best (record { not_negative = λ s a l o m. (valid s i l o).not_negative a m; sum_is_one = λ s l o. (valid s i l o).sum_is_one }) alike

@@ -9,7 +9,7 @@ use Rattle.game_theory.specs.Trees.{Tree, IsTree, IsChild, IsWithin}
 use Rattle.game_theory.specs.Behaviour.{Behaviour, IsValid, branch_probability, payoff, IsChoice, reply}
 use Rattle.game_theory.specs.TreeEquilibrium.{IsEquilibrium}
 use Rattle.game_theory.specs.FirstNodes.{AreNumberedByFirstNodes}
-use Rattle.game_theory.specs.Recall.{HasPerfectRecall}
+use Rattle.game_theory.specs.Recall.{AllRecall, HasPerfectRecall}
 use Rattle.best_replies.specs.Greatest.{HasFirstGreatest}
 use Rattle.best_replies.specs.Order.{AscendOnPaths, AgreeFrom, AgreeWithin}
 use Rattle.best_replies.specs.Reaching.{reach, weight}
@@ -100,8 +100,7 @@ BestChoicesShowBetterReplies =
 abbrev pub EquilibriaByBestChoices : Type 0
 EquilibriaByBestChoices =
     (t : Tree) (b : Behaviour) (choice : ℕ → ℕ → ℕ) → IsTree t
-    → ((i : ℕ) → i < t.players → HasPerfectRecall t i)
-    → ((i : ℕ) → i < t.players → AreBestChoices t b i (choice i)) → IsValid t b
+    → AllRecall t → ((i : ℕ) → i < t.players → AreBestChoices t b i (choice i)) → IsValid t b
     → IsEquilibrium t b ↔ ((i : ℕ) → i < t.players → reply_value t b i (choice i) 0 ≤ℚ payoff t b i)
 
 -- ---- from the last set to the first

@@ -10,7 +10,7 @@ ghost use Rattle.convert_tables.specs.Layouts.{other_players, others_counts, pay
 use crate::marks::{Mark, Style, mark_text};
 use crate::names::push_marked;
 use crate::stops::LayoutStop;
-use frac128::Memory;
+use answers::Memory;
 use game_core::{MOST_TEXT, Table};
 use ne_printer::push_fraction;
 use std::alloc::Global;
@@ -141,7 +141,7 @@ fn push_row(
 
 /// Adds the rows of the table in which the others play a profile, and stops after the first row at
 /// which the text has too many bytes.
-pub fn push_rows(
+pub(crate) fn push_rows(
     alloc: Global,
     text: &mut Vec<u8>,
     axes: &Axes,

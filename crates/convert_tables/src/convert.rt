@@ -15,7 +15,7 @@ use crate::marks::Style;
 use crate::names::push_name;
 use crate::stops::{ConvertStop, LayoutStop};
 use crate::tables::push_tables;
-use frac128::Memory;
+use answers::Memory;
 use game_core::{MOST_TEXT, Table};
 use std::alloc::Global;
 

@@ -41,7 +41,7 @@ pub enum Mark {
 }
 
 /// The bytes of a mark.
-pub fn mark_text(style: Style, mark: Mark) -> &'static [u8]
+pub(crate) fn mark_text(style: Style, mark: Mark) -> &'static [u8]
     ensures { result.now ≡ mark_text style mark }
 {
     match style {

@@ -3,7 +3,7 @@ ghost use Rattle.std.specs.Prelude.{◌≡◌, ◌++◌, OnOk, option_map};
 ghost use Rattle.convert_tables.specs.Names.{found, html_escapes, sgame_escapes, escapes, written, name_text, marked_text};
 
 use crate::marks::{Mark, Style, mark_text};
-use frac128::Memory;
+use answers::Memory;
 
 // What stands for a byte in HTML, where it is not the byte itself.
 fn html_escape(byte: u8) -> Option<&'static [u8]>
@@ -63,7 +63,7 @@ fn push_byte(text: &mut Vec<u8>, style: Style, byte: u8) -> Result<(), Memory>
 }
 
 /// Adds a name.
-pub fn push_name(text: &mut Vec<u8>, style: Style, name: &[u8]) -> Result<(), Memory>
+pub(crate) fn push_name(text: &mut Vec<u8>, style: Style, name: &[u8]) -> Result<(), Memory>
     ensures { OnOk result (text.new.items ≡ text.old.items ++ name_text style name.now) }
 {
     for byte in name {
@@ -73,7 +73,7 @@ pub fn push_name(text: &mut Vec<u8>, style: Style, name: &[u8]) -> Result<(), Me
 }
 
 /// Adds a name between two marks.
-pub fn push_marked(
+pub(crate) fn push_marked(
     text: &mut Vec<u8>,
     style: Style,
     start: Mark,

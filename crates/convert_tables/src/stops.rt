@@ -1,7 +1,7 @@
 // Why a table is not laid out.
 ghost use Rattle.std.specs.Prelude.{◌≡◌};
 
-use frac128::Memory;
+use answers::Memory;
 use game_core::{TooLarge, too_long_text};
 
 /// Why a table was not laid out. Players count from 1.

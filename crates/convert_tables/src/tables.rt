@@ -15,7 +15,7 @@ use crate::cells::{Axes, push_rows};
 use crate::marks::{Mark, Style, mark_text};
 use crate::names::{push_marked, push_name};
 use crate::stops::LayoutStop;
-use frac128::Memory;
+use answers::Memory;
 use game_core::{Name, Table, profile_count, set_profile};
 use std::alloc::Global;
 
@@ -203,7 +203,7 @@ fn push_table_end(text: &mut Vec<u8>, style: Style) -> Result<(), Memory>
 /// the first row at which the text has too many bytes. `counts` are the players' numbers of
 /// strategies, with 1 in the place of the row player and the column player. Writes over `profile`,
 /// which has a place for each player.
-pub fn push_tables(
+pub(crate) fn push_tables(
     alloc: Global,
     text: &mut Vec<u8>,
     axes: &Axes,

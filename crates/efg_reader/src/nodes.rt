@@ -197,7 +197,11 @@ fn one_more<'a>(
 }
 
 /// The tree of all nodes of a file, after which it ends.
-pub fn read_nodes(alloc: Global, players: u32, tokens: &[Spanned]) -> Result<Builder, NodesStop>
+pub(crate) fn read_nodes(
+    alloc: Global,
+    players: u32,
+    tokens: &[Spanned],
+) -> Result<Builder, NodesStop>
     requires short { AllByRecursion IsShortToken (bare tokens.now) }
     ensures { ParsesNodes (λ builder. builder) result (parse_all_nodes players (bare tokens.now)) }
 {

@@ -13,7 +13,7 @@ use Rattle.std.proofs.lemmas.List.Sorted.{Contains-permutation, IsPermutation-sy
 use Rattle.lists.proofs.ElementLemmas.{mapped, unmapped}
 use Rattle.rational.specs.Rational.{ℚ, ◌≤ℚ◌, zero_ℚ}
 use Rattle.linear_systems.specs.Tableau.{Tableau}
-use Rattle.linear_systems.specs.Reached.{in_column}
+use Rattle.linear_systems.specs.RowEquivalence.{in_column}
 use Rattle.game_theory.specs.Profiles.{Game, profile_count, number_of}
 use Rattle.game_theory.specs.Lines.{StandsBefore, AreInOrder}
 use Rattle.game_theory.proofs.ProfileLineLemmas.{length-listed}

@@ -18,9 +18,10 @@ ghost use Rattle.enummixed.specs.declared.stop.MixedStop.TheVariants as stops;
 
 use crate::points::{all_labels, scaled_points, used_places};
 use crate::stop::MixedStop;
+use answers::Memory;
 use basis_enum::{EnumerationStop, Vertex, Vertices, enumerate_with};
 use claims::{FEWEST_SHARED, Helpers, make_room};
-use frac128::{Frac, Memory};
+use frac128::Frac;
 use game_core::Table;
 use label_pairing::pairs;
 use lex_tableau::{PivotCount, System};
@@ -55,7 +56,7 @@ const SIDE_BY_SIDE: u32 = 4;
 // is started for fewer saves little.
 const ENOUGH_SIDE_BY_SIDE: usize = 64;
 
-// The vertices of a system. The steps are counted on a blank, and the count is not used.
+// The vertices of a system. The pivots are counted on a blank, and the count is not used.
 fn enumerated<R: Threads + Sync, G: Gate, L: Ledger>(
     rt: &R,
     alloc: Global,

@@ -5,7 +5,8 @@ ghost use Rattle.std.specs.Ordering.{is_lt, nat_cmp};
 ghost use Rattle.std.specs.Cmp.Lexicographic.{slice_cmp};
 ghost use Rattle.enummixed.specs.Order.{greater_first, pair_order, ArePlacesInOrder, AreRanks};
 
-use frac128::{Frac, Memory};
+use answers::Memory;
+use frac128::Frac;
 use std::alloc::Global;
 use std::cmp::Ordering;
 
@@ -92,7 +93,7 @@ fn rank(ranks: &[usize], place: u32) -> usize
 }
 
 /// Sorts pairs of places by their lines: at the first entry that differs the greater comes first.
-pub fn sort_pairs(
+pub(crate) fn sort_pairs(
     alloc: Global,
     pairs: &mut [(u32, u32)],
     firsts: &[Vec<Frac>],

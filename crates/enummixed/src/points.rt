@@ -8,8 +8,9 @@ ghost use Rattle.label_pairing.specs.Scaling.{IsScalable};
 ghost use Rattle.label_pairing.specs.declared.scaling.ScaleStop.TheVariants as stops;
 ghost use Rattle.enummixed.specs.Used.{all_labels as labels_of, occurs, is_set, used_points, scaled_used, scaling_in};
 
+use answers::Memory;
 use basis_enum::Vertex;
-use frac128::{Frac, Memory};
+use frac128::Frac;
 use label_pairing::{ScaleStop, scale};
 use std::alloc::Global;
 
@@ -26,7 +27,7 @@ fn ones(count: usize) -> u64
 }
 
 /// The mask of so many labels, at most 128.
-pub fn all_labels(count: usize) -> [u64; 2]
+pub(crate) fn all_labels(count: usize) -> [u64; 2]
     requires { count ≤ 128 }
     ensures { result ≡ labels_of count }
 {
@@ -38,7 +39,7 @@ pub fn all_labels(count: usize) -> [u64; 2]
 }
 
 /// For each of so many places: whether it occurs among these.
-pub fn used_places(alloc: Global, places: &[u32], count: usize) -> Result<Vec<bool>, Memory>
+pub(crate) fn used_places(alloc: Global, places: &[u32], count: usize) -> Result<Vec<bool>, Memory>
     requires { All (λ place. place < count) places.now }
     ensures { IfOk result (λ used. used.items ≡ map (occurs places.now) (range_with_len 0 count)) }
 {
@@ -56,7 +57,7 @@ pub fn used_places(alloc: Global, places: &[u32], count: usize) -> Result<Vec<bo
 ///
 /// `Range` exactly where a step does not fit, with the first step of the first used vertex of which
 /// one does not; `Memory` where memory ran out.
-pub fn scaled_points(
+pub(crate) fn scaled_points(
     alloc: Global,
     vertices: &[Vertex],
     used: &[bool],

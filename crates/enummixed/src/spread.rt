@@ -4,7 +4,8 @@ ghost use Rattle.std.specs.List.Sorted.{IsStrictlyIncreasing};
 ghost use Rattle.extreme_equilibria.specs.KeptTable.{IsSpreadPoint};
 ghost use Rattle.enummixed.specs.Spread.{AreSpreadPoints};
 
-use frac128::{Frac, Memory};
+use answers::Memory;
+use frac128::Frac;
 use std::alloc::Global;
 
 // The entries of a point at these places among so many, and 0 at the others.
@@ -24,7 +25,7 @@ fn spread(alloc: Global, point: &[Frac], places: &[u32], size: usize) -> Result<
 /// The points over the kept strategies of a player, which stand at these places among so many: each
 /// point with one entry for each place is spread, with 0 at the other places, and another point is
 /// left empty.
-pub fn spread_points(
+pub(crate) fn spread_points(
     alloc: Global,
     points: &[Vec<Frac>],
     places: &[u32],

@@ -2,9 +2,10 @@
 ghost use Rattle.std.specs.Prelude.{◌≡◌};
 ghost use Rattle.enummixed.specs.Told.{enumeration_stop, scale_stop};
 
+use answers::Memory;
 use basis_enum::{Basis, EnumerationStop};
 use enumpure::ListStop;
-use frac128::{Memory, Unfit};
+use frac128::Unfit;
 use game_core::TooLarge;
 use label_pairing::{PairStop, ScaleStop};
 use reply_polytope::PolyStop;

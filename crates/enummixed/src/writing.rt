@@ -8,8 +8,9 @@ ghost use Rattle.enumpure.specs.Stops.{within_text_limit};
 ghost use Rattle.enumpure.specs.declared.listing.ListStop.TheVariants as stops;
 ghost use Rattle.enummixed.specs.Order.{line_of};
 
+use answers::Memory;
 use enumpure::ListStop;
-use frac128::{Frac, Memory};
+use frac128::Frac;
 use game_core::{MOST_TEXT, too_long_text};
 use ne_printer::push_numbers;
 use std::alloc::Global;
@@ -75,7 +76,7 @@ fn push_joined(text: &mut Vec<u8>, first: &[u8], second: &[u8]) -> Result<(), Me
 /// # Errors
 ///
 /// `TooLarge` exactly where they have more than 67,108,864 bytes; `Memory` where memory ran out.
-pub fn write_lines(
+pub(crate) fn write_lines(
     alloc: Global,
     pairs: &[(u32, u32)],
     firsts: &[Vec<Frac>],

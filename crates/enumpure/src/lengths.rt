@@ -29,7 +29,7 @@ fn line_length(counts: &[usize]) -> usize
 
 /// How many bytes the lines of the profiles that pass have, where the players have so many
 /// strategies.
-pub fn text_length(counts: &[usize], passes: &[bool]) -> usize
+pub(crate) fn text_length(counts: &[usize], passes: &[bool]) -> usize
     requires some { All (λ n. 0 < n) counts.now }
     requires players { length counts.now < 2 ^ 40 }
     requires few { length passes.now ≤ most_payoffs }

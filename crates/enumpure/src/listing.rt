@@ -12,7 +12,8 @@ ghost use Rattle.enumpure.specs.declared.listing.ListStop.TheVariants as stops;
 
 use crate::lengths::text_length;
 use crate::replies::mutual_best_replies;
-use frac128::{Frac, Memory};
+use answers::Memory;
+use frac128::Frac;
 use game_core::{MOST_TEXT, Table, TooLarge, push_sure, too_long_text};
 use ne_printer::push_line;
 use std::alloc::Global;

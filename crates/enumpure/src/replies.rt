@@ -1,10 +1,11 @@
 // The profiles at which each player plays a best reply.
 ghost use Rattle.std.specs.Prelude.{◌≡◌, ℕ, ◌+◌, ◌*◌, ◌^◌, ◌<◌, IsTrue, IfOk, EachIndex, length};
-ghost use Rattle.game_theory.specs.Profiles.{Game, profile_count};
+ghost use Rattle.game_theory.specs.Profiles.{Game, profile_count, stride as stride_of};
 ghost use Rattle.game_core.specs.Table.{game_of, strategy_counts};
 ghost use Rattle.enumpure.specs.Replies.{HasProfile, IsGreatestInLine, IsColumnOf, KeepsBestInLine, KeepsBestReplies, AreMutualBestReplies, column_pays, plays_best};
 
-use frac128::{Frac, Memory};
+use answers::Memory;
+use frac128::Frac;
 use game_core::{Table, profile_count};
 use std::alloc::Global;
 
@@ -90,9 +91,11 @@ pub fn keep_best_replies(all_best: &mut [bool], column: Column, stride: usize, s
     }
 }
 
-// Leaves out the profiles at which the player has a strategy with a greater payoff.
-fn keep_best_of_player(all_best: &mut [bool], table: &Table, player: usize)
+// Leaves out the profiles at which the player, whose stride this is, has a strategy with a greater
+// payoff.
+fn keep_best_of_player(all_best: &mut [bool], table: &Table, player: usize, stride: usize)
     requires player { player < length table.now.players }
+    requires stride { stride ≡ stride_of (strategy_counts table.now) player }
     requires best_replies { length all_best.old ≡ profile_count (strategy_counts table.now) }
     ensures { KeepsBestReplies (game_of table.now) player all_best.old all_best.new }
 {
@@ -101,7 +104,6 @@ fn keep_best_of_player(all_best: &mut [bool], table: &Table, player: usize)
         offset: player,
         step: table.players().len(),
     };
-    let stride = table.stride(player);
     keep_best_replies(all_best, column, stride, table.strategy_count(player));
 }
 
@@ -111,8 +113,10 @@ fn keep_mutual(all_best: &mut [bool], table: &Table)
     requires all { EachIndex all_best.old (λ k. IsTrue (plays_best all_best.old k)) }
     ensures { AreMutualBestReplies (game_of table.now) all_best.new }
 {
+    let mut stride = 1;
     for player in 0..table.players().len() {
-        keep_best_of_player(all_best, table, player);
+        keep_best_of_player(all_best, table, player, stride);
+        stride *= table.strategy_count(player);
     }
 }
 

@@ -15,18 +15,17 @@ use Rattle.game_theory.specs.Lines.{lines_text}
 use Rattle.game_theory.specs.Trees.{Tree}
 use Rattle.game_theory.proofs.LineOrderLemmas.{AreInOrder-determined}
 use Rattle.rational.specs.Rational.{ℚ}
-use Rattle.enumpure_trees.specs.TestNodes.{AreTestNodes}
+use Rattle.enumpure_trees.specs.TestNodes.{AreTestNodes, IsTestedAt}
 use Rattle.enumpure_trees.specs.PassingStops.{passing_text, values_in}
 use Rattle.enumpure_trees.specs.PassingText.{ArePassingLines, IsPassingLine, IsPassingText}
 use Rattle.enumpure_trees.specs.Values.{ValueIndex, value_count, value_indices, value_steps}
 use Rattle.enumpure_trees.specs.declared.stop.ChoiceStop.{ChoiceStop}
 use Rattle.enumpure_trees.specs.declared.stop.ChoiceStop.TheVariants as stops
-use Rattle.lists.proofs.AscendingNumberLemmas.{increasing_same}
+use Rattle.lists.proofs.ListedLemmas.{listed-once}
 
 -- choices are tested at one list of nodes
 nodes-same : (perfect : Bool) (t : Tree) (one other : List ℕ) → AreTestNodes perfect t one → AreTestNodes perfect t other → one ≡ other
-nodes-same perfect t one other p q =
-    increasing_same one other p.ascending q.ascending (λ k c. (q.are_all k).1 ((p.are_all k).0 c)) (λ k c. (p.are_all k).1 ((q.are_all k).0 c))
+nodes-same perfect t = listed-once (IsTestedAt perfect t)
 
 -- each line of one list stands in any other
 lines-within : (agents perfect : Bool) (t : Tree) (one other : List (List ℚ)) → ArePassingLines agents perfect t one → ArePassingLines agents perfect t other → (z : List ℚ) → Contains one z → Contains other z

@@ -51,7 +51,7 @@ Passes-same agents perfect t choice other w same h k tested =
 -- the nodes are the tree's
 pub nodes-below : (perfect : Bool) (t : Tree) (nodes : List ℕ) → IsTree t → AreTestNodes perfect t nodes → All (λ k. k < t.size) nodes
 nodes-below perfect t nodes w tested k d l =
-    tested-below perfect t (get_or nodes k d) w ((tested.are_all (get_or nodes k d)).0 (Contains-get_or nodes k d l))
+    tested-below perfect t (get_or nodes k d) w (tested.sound (get_or nodes k d) (Contains-get_or nodes k d l))
 
 -- the root is tested
 root-tested : (perfect : Bool) (t : Tree) → IsTree t → IsTestedAt perfect t 0
@@ -60,4 +60,4 @@ root-tested false t w = refl
 
 -- so there is some node
 pub some_test_node : (perfect : Bool) (t : Tree) (nodes : List ℕ) → IsTree t → AreTestNodes perfect t nodes → 0 < length nodes
-some_test_node perfect t nodes w tested = let root = (tested.are_all 0).1 (root-tested perfect t w) in omega (arith, root.1)
+some_test_node perfect t nodes w tested = let root = tested.complete 0 (root-tested perfect t w) in omega (arith, root.1)

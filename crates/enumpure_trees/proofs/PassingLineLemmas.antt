@@ -1,6 +1,6 @@
 -- The lines of the passing choices, by rank, are those of the choices that pass.
 use Rattle.std.proofs.Common.{ℕ, ◌≡◌, ◌↔◌, Bool, IsTrue, List, length, map, All, Contains, sym, ap, ◌∙◌, subst, arith}
-use Rattle.game_theory.specs.Behaviour.{pure}
+use Rattle.game_theory.specs.Behaviour.{pure, IsWholeChoice}
 use Rattle.game_theory.specs.Lines.{AreInOrder, entries, lines_text}
 use Rattle.game_theory.specs.Mixed.{pure as pure_profile}
 use Rattle.game_theory.specs.Profiles.{IsProfile, number_of, profile_count}
@@ -17,7 +17,7 @@ use Rattle.enumpure.specs.Replies.{plays_best}
 use Rattle.enumpure.proofs.ListedLineLemmas.{listed_below-all, listed_below-has, listed_below-in_order}
 use Rattle.game_theory.specs.OwnSets.{action_counts, player_sets}
 use Rattle.enumpure_trees.specs.TestNodes.{AreTestNodes}
-use Rattle.enumpure_trees.specs.PassingChoices.{IsTestedEquilibriumAt, IsWholeChoice, Passes}
+use Rattle.enumpure_trees.specs.PassingChoices.{IsTestedEquilibriumAt, Passes}
 use Rattle.enumpure_trees.specs.PassingNumbers.{ArePassing}
 use Rattle.enumpure_trees.specs.PassingText.{ArePassingLines, IsPassingLine, IsPassingText, choice_line}
 use Rattle.enumpure_trees.proofs.WholeChoiceLemmas.{choice_line-at, IsWholeChoice-profile}
@@ -30,7 +30,7 @@ module _ (agents perfect : Bool) (t : Tree) (nodes : List ℕ) (passing : List B
   passing-passes profile f =
       let number = number_of (action_counts t) profile in
       let tells = subst (λ v. IsTrue (plays_best passing number) ↔ ((k : ℕ) → Contains nodes k → IsTestedEquilibriumAt agents t (pure (choice_at (player_sets t) v)) k)) (profile_at-number_of (action_counts t) profile f) (h.all_passing number (number_of-below (action_counts t) profile f)) in
-      (λ s k m. tells.0 s k ((tested.are_all k).1 m), λ passes. tells.1 (λ k c. passes k ((tested.are_all k).0 c)))
+      (λ s k m. tells.0 s k (tested.complete k m), λ passes. tells.1 (λ k c. passes k (tested.sound k c)))
 
   -- the lines stand in order
   lines-in_order : AreInOrder (lines_below (action_counts t) passing (profile_count (action_counts t)))

@@ -15,7 +15,7 @@ use Rattle.game_theory.proofs.ProfileNumberLemmas.{length-profile}
 use Rattle.reduced_strategies.specs.Choices.{choice_at}
 use Rattle.reduced_strategies.proofs.ChoiceListLemmas.{choice_at-within, map-choice_at}
 use Rattle.enumpure_trees.specs.Choices.{whole_choices}
-use Rattle.enumpure_trees.specs.PassingChoices.{IsWholeChoice}
+use Rattle.game_theory.specs.Behaviour.{IsWholeChoice}
 use Rattle.enumpure_trees.specs.PassingText.{choice_line}
 use Rattle.enumpure_trees.specs.Values.{value_count}
 

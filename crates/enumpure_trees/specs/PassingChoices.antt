@@ -24,10 +24,6 @@ abbrev pub IsTestedEquilibriumAt : (agents : Bool) → Tree → Behaviour → �
 IsTestedEquilibriumAt true = IsAgentEquilibriumAt
 IsTestedEquilibriumAt false = IsEquilibriumAt
 
--- one action at each player's set
-abbrev pub IsWholeChoice : Tree → (ℕ → ℕ) → Type 0
-IsWholeChoice t choice = (s i : ℕ) → s < t.sets → t.owner s ≡ Some i → choice s < t.actions s
-
 -- a choice passes: it is an equilibrium at each node at which it is tested
 abbrev pub Passes : (agents perfect : Bool) → Tree → (ℕ → ℕ) → Type 0
 Passes agents perfect t choice =

@@ -1,11 +1,11 @@
 -- The lines of the choices that pass.
 use Rattle.std.specs.Prelude.{ℕ, ◌≡◌, Bool, List, All, Contains}
-use Rattle.game_theory.specs.Behaviour.{pure}
+use Rattle.game_theory.specs.Behaviour.{pure, IsWholeChoice}
 use Rattle.game_theory.specs.Lines.{AreInOrder, lines_text}
 use Rattle.game_theory.specs.TreeEntries.{tree_entries}
 use Rattle.game_theory.specs.Trees.{Tree}
 use Rattle.rational.specs.Rational.{ℚ}
-use Rattle.enumpure_trees.specs.PassingChoices.{IsWholeChoice, Passes}
+use Rattle.enumpure_trees.specs.PassingChoices.{Passes}
 
 -- the line of a choice: its behaviour
 abbrev pub choice_line : Tree → (ℕ → ℕ) → List ℚ

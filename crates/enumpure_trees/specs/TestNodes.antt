@@ -1,6 +1,6 @@
 -- The nodes of a tree at which choices are tested.
-use Rattle.std.specs.Prelude.{ℕ, ◌<◌, ◌≡◌, ◌↔◌, Bool, true, false, List, Contains}
-use Rattle.std.specs.List.Sorted.{IsStrictlyIncreasing}
+use Rattle.std.specs.Prelude.{ℕ, ◌<◌, ◌≡◌, Bool, true, false, List}
+use Rattle.lists.specs.Listed.{AreListed}
 use Rattle.game_theory.specs.Trees.{Tree}
 use Rattle.subgames.specs.Roots.{IsSubgameRoot}
 
@@ -10,6 +10,5 @@ IsTestedAt true t k = (k < t.size) × IsSubgameRoot t k
 IsTestedAt false t k = k ≡ 0
 
 -- the nodes at which choices are tested, in ascending order
-pub record AreTestNodes (perfect : Bool) (t : Tree) (nodes : List ℕ) : Type 0 where
-  pub ascending : IsStrictlyIncreasing nodes
-  pub are_all : (k : ℕ) → Contains nodes k ↔ IsTestedAt perfect t k
+abbrev pub AreTestNodes : (perfect : Bool) → Tree → List ℕ → Type 0
+AreTestNodes perfect t nodes = AreListed (IsTestedAt perfect t) nodes

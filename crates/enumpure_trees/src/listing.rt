@@ -14,9 +14,9 @@ ghost use Rattle.enumpure.specs.declared.listing.ListStop.TheVariants as stops;
 ghost use Rattle.enumpure_trees.specs.Stops.{behaviour_text};
 
 use crate::orders::orders_of_all;
+use answers::Memory;
 use behaviour_profile::Behaviour;
 use enumpure::{ListStop, mutual_best_replies};
-use frac128::Memory;
 use game_core::{MOST_TEXT, Tree, too_long_text, trees_are_game_trees};
 use ne_printer::{line, push_line};
 use reduced_form::Reduced;

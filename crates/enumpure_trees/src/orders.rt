@@ -7,7 +7,7 @@ ghost use Rattle.reduced_form.specs.ReducedForm.{IsReducedForm};
 ghost use Rattle.enumpure_trees.specs.Orders.{completed_list};
 ghost use Rattle.enumpure_trees.specs.StrategyOrders.{AreToldApart, first_numbered, IsSortedOrder, AreSortedOrders};
 
-use frac128::Memory;
+use answers::Memory;
 use game_core::{Tree, trees_are_game_trees};
 use reduced_form::Reduced;
 use std::alloc::Global;
@@ -61,7 +61,11 @@ fn order_of(alloc: Global, strategies: &[Vec<u32>]) -> Result<Vec<u32>, Memory>
 }
 
 /// For each player the numbers of the strategies in the order of their lines.
-pub fn orders_of_all(alloc: Global, tree: &Tree, reduced: &Reduced) -> Result<Vec<Vec<u32>>, Memory>
+pub(crate) fn orders_of_all(
+    alloc: Global,
+    tree: &Tree,
+    reduced: &Reduced,
+) -> Result<Vec<Vec<u32>>, Memory>
     requires form { IsReducedForm tree.now reduced.now }
     ensures { IfOk result
         (λ orders. AreSortedOrders reduced.now.choices (map (λ v. v.items) orders.items)) }

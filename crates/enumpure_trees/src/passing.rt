@@ -9,10 +9,10 @@ ghost use Rattle.enumpure_trees.specs.Games.{AllPlayBest, AreColumnsOf, HasColum
 ghost use Rattle.enumpure_trees.specs.PassingNumbers.{ArePassing};
 ghost use Rattle.enumpure_trees.specs.Values.{choice_values, value_count};
 
+use answers::Memory;
 use enumpure::{Column, keep_best_replies};
-use frac128::{Frac, Memory};
+use frac128::Frac;
 use game_core::Tree;
-use game_core::tree_parts::{action_count, owner, stands_for_game_tree};
 use std::alloc::Global;
 
 // The owners of the players' sets.
@@ -22,7 +22,7 @@ fn owners(alloc: Global, tree: &Tree, sets: &[u32]) -> Result<Vec<u32>, Memory>
 {
     let mut owners = Vec::with_capacity(alloc, sets.len())?;
     for set in sets {
-        owners.push(owner(tree, *set as usize).unwrap_or(0))?;
+        owners.push(tree.owner(*set as usize).unwrap_or(0))?;
     }
     Ok(owners)
 }
@@ -31,7 +31,7 @@ fn owners(alloc: Global, tree: &Tree, sets: &[u32]) -> Result<Vec<u32>, Memory>
 fn all_players(alloc: Global, tree: &Tree) -> Result<Vec<u32>, Memory>
     ensures { IfOk result (λ players. players.items ≡ choosers false (game_of_tree tree.now)) }
 {
-    stands_for_game_tree(tree);
+    tree.stands_for_game_tree();
     let mut players = Vec::new(alloc);
     for player in 0..tree.players().len() {
         players.push(player as u32)?;
@@ -44,10 +44,10 @@ fn strategy_count(tree: &Tree, player: u32) -> usize
     requires { strategy_count (game_of_tree tree.now) player < 2 ^ 64 }
     ensures { result ≡ strategy_count (game_of_tree tree.now) player }
 {
-    stands_for_game_tree(tree);
+    tree.stands_for_game_tree();
     let mut count = 1;
     for set in tree.sets_of(player) {
-        count *= action_count(tree, *set as usize);
+        count *= tree.action_count(*set as usize);
     }
     count
 }
@@ -58,7 +58,7 @@ fn player_counts(alloc: Global, tree: &Tree) -> Result<Vec<usize>, Memory>
     ensures { IfOk result
         (λ counts. counts.items ≡ strategy_counts false (game_of_tree tree.now)) }
 {
-    stands_for_game_tree(tree);
+    tree.stands_for_game_tree();
     let mut counts = Vec::new(alloc);
     for player in 0..tree.players().len() {
         counts.push(strategy_count(tree, player as u32))?;
@@ -161,7 +161,7 @@ pub(crate) fn passing_choices(
     ensures { IfOk result
         (λ passing. ArePassing agents (game_of_tree tree.now) nodes.now passing.items) }
 {
-    stands_for_game_tree(tree);
+    tree.stands_for_game_tree();
     let columns = Columns {
         numbers: choices.values,
         nodes: nodes.len(),

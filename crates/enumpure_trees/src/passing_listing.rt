@@ -13,7 +13,6 @@ use crate::test_nodes::test_nodes;
 use crate::values::choice_values;
 use enumpure::list_profiles;
 use game_core::Tree;
-use game_core::tree_parts::stands_for_game_tree;
 use std::alloc::Global;
 
 /// The lines of the choices that pass, each once, in descending order of the lines' entries. A choice
@@ -35,7 +34,7 @@ pub fn list_passing_choices(
     ensures { Gives stops.Memory (passing_text agents perfect (game_of_tree tree.now))
         (map_ok result (λ text. text.items)) }
 {
-    stands_for_game_tree(tree);
+    tree.stands_for_game_tree();
     let nodes = test_nodes(alloc, perfect, tree)?;
     let sets = player_sets(alloc, tree)?;
     let counts = action_counts(alloc, tree, &sets)?;

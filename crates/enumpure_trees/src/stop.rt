@@ -1,6 +1,7 @@
 // Why the choices that pass were not listed.
+use answers::Memory;
 use enumpure::ListStop;
-use frac128::{Memory, Unfit};
+use frac128::Unfit;
 use game_core::TooLarge;
 use std::alloc::AllocFailed;
 

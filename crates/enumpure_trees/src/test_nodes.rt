@@ -3,7 +3,7 @@ ghost use Rattle.std.specs.Prelude.{IfOk};
 ghost use Rattle.game_core.specs.TreeGame.{game_of_tree};
 ghost use Rattle.enumpure_trees.specs.TestNodes.{AreTestNodes};
 
-use frac128::Memory;
+use answers::Memory;
 use game_core::Tree;
 use std::alloc::Global;
 use subgames::subgame_roots;

@@ -20,8 +20,8 @@ ghost use Rattle.enumpure_trees.specs.Values.{choice_values, value_count};
 ghost use Rattle.enumpure_trees.specs.declared.stop.ChoiceStop.TheVariants as stops;
 
 use crate::stop::ChoiceStop;
-use frac128::{Frac, Memory};
-use game_core::tree_parts::stands_for_game_tree;
+use answers::Memory;
+use frac128::Frac;
 use game_core::{MOST_PAYOFFS, TooLarge, Tree, What, set_profile};
 use pure_payoffs::{Choices, Play, Shortcuts, ValueStop, children_of_all};
 use std::alloc::Global;
@@ -54,7 +54,7 @@ fn choice_count(tree: &Tree, counts: &[usize], nodes: &[u32]) -> Result<usize, C
         (counted_within what.Payoffs most_payoffs (value_count (game_of_tree tree.now) nodes.now))
         (map_ok result (λ _. tt)) }
 {
-    stands_for_game_tree(tree);
+    tree.stands_for_game_tree();
     let players = tree.players().len();
     if players == 0 {
         return Ok(1);
@@ -165,7 +165,7 @@ pub(crate) fn choice_values(
     ensures stop { Gives stops.Memory (values_in (game_of_tree tree.now) nodes.now)
         (map_ok result (λ _. tt)) }
 {
-    stands_for_game_tree(tree);
+    tree.stands_for_game_tree();
     let choices = choice_count(tree, counts, nodes)?;
     let children = children_of_all(alloc, tree)?;
     let mut shortcuts = Shortcuts::new(alloc, tree)?;

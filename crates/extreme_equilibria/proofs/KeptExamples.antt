@@ -10,7 +10,8 @@ use Rattle.rational.proofs.Decide.{lt_test-true}
 use Rattle.rational.proofs.Field.{lt_irrefl, lt_trans}
 use Rattle.game_theory.specs.Examples.{prisoners_dilemma_game}
 use Rattle.extreme_equilibria.specs.TwoPlayers.{other, pays_against}
-use Rattle.extreme_equilibria.specs.Elimination.{IsDominated, IsKeptAfter, AreListed, AreKeptAfter}
+use Rattle.lists.specs.Listed.{AreListed}
+use Rattle.extreme_equilibria.specs.Elimination.{IsDominated, IsKeptAfter, AreKeptAfter}
 use Rattle.extreme_equilibria.specs.KeptExamples.{weak_game, EliminationInTwoGames}
 use Rattle.extreme_equilibria.proofs.RoundLemmas.{other-below}
 use Rattle.extreme_equilibria.proofs.KeptListLemmas.{place, last-lists}

@@ -27,7 +27,7 @@ module _ (g : Game) (m : Mixed) (two : length g.strategies ≡ 2) (valid : IsVal
   some_played : (i : ℕ) → i < 2 → (s : ℕ) × (s < get_or g.strategies i 0) × (m i s ≢ zero_ℚ)
   some_played i l = elim (search_below (λ s. m i s ≢ zero_ℚ) (λ s. elim (is_zero (m i s)) [ inl z ↦ inr (λ n. n z) | inr n ↦ inl n ]) (get_or g.strategies i 0)) [
     | inl found ↦ found
-    | inr none ↦ absurd (lt_irrefl zero_ℚ (subst (λ x. zero_ℚ <ℚ x) (sym (valid.sum_is_one i (omega arith)) ∙ sum_to-zeros (get_or g.strategies i 0) (m i) (λ s h. elim (is_zero (m i s)) [ inl z ↦ z | inr n ↦ absurd (none s h n) ])) zero_lt_one))
+    | inr none ↦ absurd (lt_irrefl zero_ℚ (subst (λ x. zero_ℚ <ℚ x) (sym ((valid i (omega arith)).sum_is_one) ∙ sum_to-zeros (get_or g.strategies i 0) (m i) (λ s h. elim (is_zero (m i s)) [ inl z ↦ z | inr n ↦ absurd (none s h n) ])) zero_lt_one))
   ]
 
   -- where the other player plays kept strategies, what pays more against each of them gains more
@@ -36,12 +36,12 @@ module _ (g : Game) (m : Mixed) (two : length g.strategies ≡ 2) (valid : IsVal
   gains-more n i s r l plays more =
       let played = some_played (other i) (other-below i) in
       sum_to-lt (get_or g.strategies (other i) 0) played.0 _ _ term played.1
-      (lt-mul_left (m (other i) played.0) _ _ ((lt-le zero_ℚ (m (other i) played.0)).1 (valid.not_negative (other i) played.0 (omega (arith, other-below i)) played.1, λ e. played.2 (sym e))) (more played.0 (plays played.0 played.1 played.2)))
+      (lt-mul_left (m (other i) played.0) _ _ ((lt-le zero_ℚ (m (other i) played.0)).1 ((valid (other i) (omega (arith, other-below i))).not_negative played.0 played.1, λ e. played.2 (sym e))) (more played.0 (plays played.0 played.1 played.2)))
     where
       term : (t : ℕ) → t < get_or g.strategies (other i) 0 → (m (other i) t *ℚ pays_against g i s t) ≤ℚ (m (other i) t *ℚ pays_against g i r t)
       term t h = elim (is_zero (m (other i) t)) [
         | inl z ↦ le_of_eq _ _ (ap (λ x. x *ℚ pays_against g i s t) z ∙ zero-*ℚ _ ∙ sym (zero-*ℚ _) ∙ ap (λ x. x *ℚ pays_against g i r t) (sym z))
-        | inr p ↦ le-mul_left (m (other i) t) _ _ (valid.not_negative (other i) t (omega (arith, other-below i)) h) (le_of_lt _ _ (more t (plays t h p)))
+        | inr p ↦ le-mul_left (m (other i) t) _ _ ((valid (other i) (omega (arith, other-below i))).not_negative t h) (le_of_lt _ _ (more t (plays t h p)))
       ]
 
   -- so a strategy that gains most is never removed
@@ -52,7 +52,7 @@ module _ (g : Game) (m : Mixed) (two : length g.strategies ≡ 2) (valid : IsVal
 
 -- at an equilibrium a strategy that is played gains most
 pub played-best : (g : Game) (m : Mixed) → length g.strategies ≡ 2 → IsEquilibrium g m → (i s : ℕ) → i < 2 → s < get_or g.strategies i 0 → m i s ≢ zero_ℚ → gain g m i s ≡ payoff g m i
-played-best g m two e i s l h played = elim ((support (get_or g.strategies i 0) (m i) (gain g m i) (payoff g m i) (λ r k. e.valid.not_negative i r (omega arith) k) (e.valid.sum_is_one i (omega arith)) (λ r k. gain-below g m two e i r l k)).0 (sym (payoff-gains g m two i l)) s h) [
+played-best g m two e i s l h played = elim ((support (get_or g.strategies i 0) (m i) (gain g m i) (payoff g m i) (λ r k. (e.valid i (omega arith)).not_negative r k) ((e.valid i (omega arith)).sum_is_one) (λ r k. gain-below g m two e i r l k)).0 (sym (payoff-gains g m two i l)) s h) [
   | inl z ↦ absurd (played z)
   | inr q ↦ q
 ]

@@ -99,21 +99,21 @@ module _ (g : Game) (kept : List (List ℕ)) (two : length g.strategies ≡ 2) (
 
     -- valid probabilities are so on the table
     valid-at_kept : IsValid g.strategies m → IsValid table.strategies (at_kept kept m)
-    valid-at_kept valid =
+    valid-at_kept valid i l =
         record {
-          not_negative = λ i j l b. valid.not_negative i (at i j) (omega (arith, two, table-two)) (at-within i j (omega (arith, table-two)) (omega (arith, b, kept-count kept i)));
-          sum_is_one = λ i l. sym (over-kept i (m i) (omega (arith, table-two)) (λ s b none. off-list m off i s (omega (arith, table-two)) b none)) ∙ valid.sum_is_one i (omega (arith, two, table-two));
+          not_negative = λ j b. (valid i (omega (arith, two, table-two))).not_negative (at i j) (at-within i j (omega (arith, table-two)) (omega (arith, b, kept-count kept i)));
+          sum_is_one = sym (over-kept i (m i) (omega (arith, table-two)) (λ s b none. off-list m off i s (omega (arith, table-two)) b none)) ∙ (valid i (omega (arith, two, table-two))).sum_is_one;
         }
 
     -- and back
     valid-from_kept : IsValid table.strategies (at_kept kept m) → IsValid g.strategies m
-    valid-from_kept valid =
+    valid-from_kept valid i l =
         record {
-          not_negative = λ i s l b. elim (contains_or_not cases_eq (list i) s) [
-            | inl c ↦ let p = place (list i) s 0 c in subst (λ x. zero_ℚ ≤ℚ m i x) p.2 (valid.not_negative i p.0 (omega (arith, two, table-two)) (omega (arith, p.1, kept-count kept i)))
+          not_negative = λ s b. elim (contains_or_not cases_eq (list i) s) [
+            | inl c ↦ let p = place (list i) s 0 c in subst (λ x. zero_ℚ ≤ℚ m i x) p.2 ((valid i (omega (arith, two, table-two))).not_negative p.0 (omega (arith, p.1, kept-count kept i)))
             | inr none ↦ subst (λ x. zero_ℚ ≤ℚ x) (sym (off-list m off i s (omega arith) b none)) (le_refl zero_ℚ)
           ];
-          sum_is_one = λ i l. over-kept i (m i) (omega arith) (λ s b none. off-list m off i s (omega arith) b none) ∙ valid.sum_is_one i (omega (arith, two, table-two));
+          sum_is_one = over-kept i (m i) (omega arith) (λ s b none. off-list m off i s (omega arith) b none) ∙ (valid i (omega (arith, two, table-two))).sum_is_one;
         }
 
     -- an equilibrium is one of the table

@@ -9,7 +9,7 @@ use Rattle.rational.proofs.Ring.{ring, num, ◌:+◌, ◌:*◌, ◌:-◌, A, B, 
 use Rattle.rational.proofs.Field.{trichotomy, lt-sub}
 use Rattle.rational.proofs.InverseLemmas.{ne_zero_of_pos}
 use Rattle.linear_systems.specs.Tableau.{Tableau}
-use Rattle.linear_systems.specs.Reached.{IsVariableOf}
+use Rattle.linear_systems.specs.RowEquivalence.{IsVariableOf}
 use Rattle.game_theory.specs.Profiles.{Game}
 use Rattle.game_theory.specs.Mixed.{Mixed}
 use Rattle.game_theory.specs.Lines.{listed, entries}

@@ -26,11 +26,11 @@ ones_same a b h k e =
 -- probabilities of a player in an equilibrium
 module _ (g : Game) (m : Mixed) (i : ℕ) (p : ℕ → ℚ) (h : IsEquilibrium g (with_part m i p)) (l : i < length g.strategies) where
   part_not_negative : (s : ℕ) → s < get_or g.strategies i 0 → zero_ℚ ≤ℚ p s
-  part_not_negative s k = subst (λ x. zero_ℚ ≤ℚ x) (with_part-at m i p s) (h.valid.not_negative i s l k)
+  part_not_negative s k = subst (λ x. zero_ℚ ≤ℚ x) (with_part-at m i p s) ((h.valid i l).not_negative s k)
 
   part_at_most : (s : ℕ) → s < get_or g.strategies i 0 → p s ≤ℚ one_ℚ
   part_at_most s k =
-      subst (λ x. p s ≤ℚ x) (sym (sum_to-same (get_or g.strategies i 0) (with_part m i p i) p (λ t _. with_part-at m i p t)) ∙ h.valid.sum_is_one i l)
+      subst (λ x. p s ≤ℚ x) (sym (sum_to-same (get_or g.strategies i 0) (with_part m i p i) p (λ t _. with_part-at m i p t)) ∙ (h.valid i l).sum_is_one)
       (term_le_sum (get_or g.strategies i 0) s p part_not_negative k)
 
 -- a sure strategy is in the middle of no two different parts

@@ -8,7 +8,7 @@ use Rattle.rational.proofs.Ring.{ring, combine, ◌times◌is◌, num, ◌:+◌,
 use Rattle.rational.proofs.Linear.{linear, at, lit, ◌⟨+⟩◌, ◌⟨-⟩◌, ◌⟨≤⟩◌, ◌⟨=⟩◌}
 use Rattle.rational.proofs.SumLemmas.{sum_to-same}
 use Rattle.linear_systems.specs.Tableau.{Tableau, Solves, left}
-use Rattle.linear_systems.specs.Reached.{IsVariableOf, in_row, in_column}
+use Rattle.linear_systems.specs.RowEquivalence.{IsVariableOf, in_row, in_column}
 use Rattle.extreme_equilibria.specs.ExtremeEquilibria.{AreSame, IsMidpoint}
 use Rattle.extreme_equilibria.specs.Bimatrix.{gain}
 use Rattle.extreme_equilibria.specs.Polytopes.{IsInPolytope, IsVertex, first_variable, second_variable}

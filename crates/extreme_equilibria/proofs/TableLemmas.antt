@@ -44,19 +44,19 @@ module _ (g : Game) (m n : ℕ) (e : g.strategies ≡ m ∷ n ∷ []) where
   to_tables k h =
       record {
         first_mixed = record {
-          not_negative = λ i b. h.valid.not_negative 0 i (omega (arith, two)) (subst (λ r. i < r) (sym first_count) b);
-          sum_is_one = subst (λ r. sum_to r (k 0) ≡ one_ℚ) first_count (h.valid.sum_is_one 0 (omega (arith, two)));
+          not_negative = λ i b. (h.valid 0 (omega (arith, two))).not_negative i (subst (λ r. i < r) (sym first_count) b);
+          sum_is_one = subst (λ r. sum_to r (k 0) ≡ one_ℚ) first_count ((h.valid 0 (omega (arith, two))).sum_is_one);
         };
         second_mixed = record {
-          not_negative = λ j b. h.valid.not_negative 1 j (omega (arith, two)) (subst (λ r. j < r) (sym second_count) b);
-          sum_is_one = subst (λ r. sum_to r (k 1) ≡ one_ℚ) second_count (h.valid.sum_is_one 1 (omega (arith, two)));
+          not_negative = λ j b. (h.valid 1 (omega (arith, two))).not_negative j (subst (λ r. j < r) (sym second_count) b);
+          sum_is_one = subst (λ r. sum_to r (k 1) ≡ one_ℚ) second_count ((h.valid 1 (omega (arith, two))).sum_is_one);
         };
         first_best = λ i b. subst₂ (λ x y. x ≤ℚ y) (first-gain k i) (first-payoff k) (T.gain-below g k two h 0 i (omega arith) (subst (λ r. i < r) (sym first_count) b));
         second_best = λ j b. subst₂ (λ x y. x ≤ℚ y) (second-gain k j) (second-payoff k) (T.gain-below g k two h 1 j (omega arith) (subst (λ r. j < r) (sym second_count) b));
       }
 
   pub from_tables : (k : Mixed) → IsBimatrixEquilibrium m n (pays_against g 0) (pays_against g 1) (k 0) (k 1) → IsEquilibrium g k
-  from_tables k s = T.equilibrium-by_gains g k two (record { not_negative = not_negative; sum_is_one = sum_is_one }) best
+  from_tables k s = T.equilibrium-by_gains g k two (λ p b. record { not_negative = λ i. not_negative p i b; sum_is_one = sum_is_one p b }) best
     where
       not_negative : (p i : ℕ) → p < length g.strategies → i < get_or g.strategies p 0 → zero_ℚ ≤ℚ k p i
       not_negative zero i b h = s.first_mixed.not_negative i (subst (λ r. i < r) first_count h)

@@ -1,7 +1,7 @@
 -- Games of two players in which strictly dominated strategies are removed, round by round. Source:
 -- Gale, Kuhn and Tucker 1950; Luce and Raiffa 1957.
-use Rattle.std.specs.Prelude.{ℕ, zero, suc, ◌<◌, List, Contains, slice_index}
-use Rattle.std.specs.List.Sorted.{IsStrictlyIncreasing}
+use Rattle.std.specs.Prelude.{ℕ, zero, suc, ◌<◌, List, slice_index}
+use Rattle.lists.specs.Listed.{AreListed}
 use Rattle.rational.specs.Rational.{◌<ℚ◌}
 use Rattle.game_theory.specs.Profiles.{Game}
 use Rattle.extreme_equilibria.specs.TwoPlayers.{other, pays_against}
@@ -24,12 +24,6 @@ IsKeptAfter g (suc n) i s =
 -- a strategy that no round removes
 abbrev pub IsKept : Game → ℕ → ℕ → Type 0
 IsKept g i s = (n : ℕ) → IsKeptAfter g n i s
-
--- an ascending list of the strategies that pass
-pub record AreListed (passes : ℕ → Type 0) (strategies : List ℕ) : Type 0 where
-  pub ascending : IsStrictlyIncreasing strategies
-  pub sound : (s : ℕ) → Contains strategies s → passes s
-  pub complete : (s : ℕ) → passes s → Contains strategies s
 
 -- the strategies of player i that are kept after n rounds, in order
 abbrev pub AreKeptAfter : Game → ℕ → ℕ → List ℕ → Type 0

@@ -6,7 +6,7 @@ ghost use Rattle.rational.specs.Gcd.{gcd as gcd_of};
 use std::cmp::Ordering;
 
 /// The greatest number of 64 bits.
-pub const WORD: u128 = 18446744073709551615;
+pub(crate) const MOST_64_BITS: u128 = 18446744073709551615;
 
 // The greatest common divisor, by steps on 64 bits.
 fn gcd_64(a: u64, b: u64) -> u64
@@ -34,7 +34,7 @@ pub fn gcd(a: u128, b: u128) -> u128
     }
     let mut x = a;
     let mut y = b;
-    while x > WORD || y > WORD {
+    while x > MOST_64_BITS || y > MOST_64_BITS {
         if y == 0 {
             return x;
         }
@@ -46,13 +46,13 @@ pub fn gcd(a: u128, b: u128) -> u128
 }
 
 // The whole part of n / d. A division of 128 bits is made only where a part does not fit 64.
-pub fn divided(n: u128, d: u128) -> u128
+pub(crate) fn divided(n: u128, d: u128) -> u128
     requires { 0 < d }
     ensures { result ≡ n / d }
 {
     if d == 1 {
         n
-    } else if n <= WORD && d <= WORD {
+    } else if n <= MOST_64_BITS && d <= MOST_64_BITS {
         (n as u64 / d as u64) as u128
     } else {
         n / d
@@ -68,7 +68,7 @@ fn rest_of(n: u128, d: u128, whole: u128) -> u128
 }
 
 // The order of a / b and c / d: that of the whole parts, then that of the rests, upside down.
-pub fn cmp_quotients(a: u128, b: u128, c: u128, d: u128) -> Ordering
+fn cmp_quotients(a: u128, b: u128, c: u128, d: u128) -> Ordering
     requires left { 0 < b }
     requires right { 0 < d }
     ensures { result ≡ nat_cmp (a * d) (c * b) }

@@ -3,16 +3,16 @@ ghost use Rattle.std.specs.Prelude.{◌≡◌, ◌↔◌, ◌<◌, ◌*◌, ◌^
 ghost use Rattle.std.specs.Option.{SomeIff};
 ghost use Rattle.frac128.specs.Fraction.{PartFits, with_sign};
 
-use crate::euclid::WORD;
+use crate::euclid::MOST_64_BITS;
 
-/// The first size that does not fit.
-pub const LIMIT: u128 = 170141183460469231731687303715884105728;
+/// The first size of a part that does not fit.
+pub(crate) const TWO_TO_127: u128 = 170141183460469231731687303715884105728;
 
-// 2^64.
-const RADIX: u128 = 18446744073709551616;
+// The first number of more than 64 bits.
+const TWO_TO_64: u128 = 18446744073709551616;
 
 // The first size whose product with another such size may not fit.
-const SHORT: u128 = 9223372036854775808;
+const TWO_TO_63: u128 = 9223372036854775808;
 
 /// The number of this size, with a sign.
 pub fn signed(size: u128, negative: bool) -> i128
@@ -28,18 +28,18 @@ pub fn signed(size: u128, negative: bool) -> i128
 pub fn is_short(part: i128) -> bool
     ensures { IsTrue result ↔ (nat_abs part < 2 ^ 63) }
 {
-    part.unsigned_abs() < SHORT
+    part.unsigned_abs() < TWO_TO_63
 }
 
 /// The product of two sizes, where it fits 128 bits. Nothing is divided.
-pub fn product(n: u128, m: u128) -> Option<u128>
+pub(crate) fn product(n: u128, m: u128) -> Option<u128>
     ensures { SomeIff result (n * m < 2 ^ 128) (n * m) }
 {
-    if n <= WORD && m <= WORD {
+    if n <= MOST_64_BITS && m <= MOST_64_BITS {
         Some(n * m)
-    } else if m <= WORD {
+    } else if m <= MOST_64_BITS {
         long_product(n, m)
-    } else if n <= WORD {
+    } else if n <= MOST_64_BITS {
         long_product(m, n)
     } else {
         None
@@ -51,31 +51,31 @@ fn long_product(long: u128, short: u128) -> Option<u128>
     requires { short < 2 ^ 64 }
     ensures { SomeIff result (long * short < 2 ^ 128) (long * short) }
 {
-    let high = long / RADIX * short;
-    if high > WORD {
+    let high = long / TWO_TO_64 * short;
+    if high > MOST_64_BITS {
         return None;
     }
-    let low = long % RADIX * short;
-    (high * RADIX).checked_add(low)
+    let low = long % TWO_TO_64 * short;
+    (high * TWO_TO_64).checked_add(low)
 }
 
 /// The product of a part and a size, where it fits.
-pub fn times(n: i128, m: u128) -> Option<i128>
+pub(crate) fn times(n: i128, m: u128) -> Option<i128>
     ensures { MatchOption result (¬ (PartFits (n *ℤ pos m))) (λ p. (p ≡ n *ℤ pos m) × PartFits p) }
 {
     let size = product(n.unsigned_abs(), m)?;
-    if size >= LIMIT {
+    if size >= TWO_TO_127 {
         return None;
     }
     Some(signed(size, n < 0))
 }
 
 /// The sum of two parts, where it fits.
-pub fn plus(n: i128, m: i128) -> Option<i128>
+pub(crate) fn plus(n: i128, m: i128) -> Option<i128>
     ensures { MatchOption result (¬ (PartFits (n +ℤ m))) (λ s. (s ≡ n +ℤ m) × PartFits s) }
 {
     let sum = n.checked_add(m)?;
-    if sum.unsigned_abs() >= LIMIT {
+    if sum.unsigned_abs() >= TWO_TO_127 {
         return None;
     }
     Some(sum)

@@ -7,7 +7,7 @@ ghost use Rattle.rational.specs.Rational.{frac, zero_ℚ, one_ℚ, neg_ℚ, ◌<
 ghost use Rattle.rational.specs.Tests.{cmp_ℚ, sign_of};
 
 use crate::euclid::{cmp_signed_quotients, divided, gcd};
-use crate::fitting::{LIMIT, is_short, signed};
+use crate::fitting::{TWO_TO_127, is_short, signed};
 use std::cmp::Ordering;
 use std::marker::Model;
 
@@ -213,7 +213,7 @@ impl Frac {
         ensures { MatchOption result (¬ (Fits (frac (with_sign negative top) bottom))) (λ f. (f
             ≡ frac (with_sign negative top) bottom) × Fits f) }
     {
-        if top >= LIMIT || bottom >= LIMIT {
+        if top >= TWO_TO_127 || bottom >= TWO_TO_127 {
             return None;
         }
         Some(Frac::from_lowest_terms(signed(top, negative), bottom))

@@ -19,7 +19,6 @@ mod products;
 mod steps;
 mod sums;
 
-pub use answers::Memory;
 pub use euclid::{cmp_signed_quotients, gcd};
 pub use fitting::{is_short, signed};
 pub use frac::Frac;

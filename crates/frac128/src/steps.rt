@@ -8,17 +8,24 @@ use crate::Frac;
 /// An operation on two fractions.
 #[derive(Debug, Clone, Copy, PartialEq, Eq)]
 pub enum Op {
+    /// The sum.
     Add,
+    /// The left operand less the right one.
     Sub,
+    /// The product.
     Mul,
+    /// The left operand divided by the right one.
     Div,
 }
 
 /// A step that does not fit: its operation and both operands.
 #[derive(Debug, Clone, Copy, PartialEq, Eq)]
 pub struct Unfit {
+    /// The operation.
     pub op: Op,
+    /// The left operand.
     pub left: Frac,
+    /// The right operand.
     pub right: Frac,
 }
 

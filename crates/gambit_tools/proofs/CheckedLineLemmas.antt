@@ -1,5 +1,6 @@
 -- Commands with two inputs: what reading them and judging the lines of the second does.
-use Rattle.std.proofs.Common.{ℕ, ◌≡◌, ◌+◌, ◌≤◌, ◌<◌, ◌∙◌, inl, inr, sym, subst, refl, arith, Bool, List, [], ◌∷◌, length, Option, None, Some, Ok, Err}
+use Rattle.std.proofs.Common.{ℕ, zero, suc, slice_get, ap, ◌≡◌, ◌+◌, ◌≤◌, ◌<◌, ◌∙◌, inl, inr, sym, subst, refl, arith, Bool, List, [], ◌∷◌, length, Option, None, Some, Ok, Err}
+use Rattle.std.proofs.lemmas.Option.{same_Some}
 use Rattle.std.specs.Io.KnownBytes.{Consumes}
 use Rattle.answers.specs.Answers.{Gives}
 use Rattle.outside.specs.Counts.{Rose, count_of_more, next_count}
@@ -9,7 +10,7 @@ use Rattle.game_core.specs.declared.game.Game.{Game}
 use Rattle.gambit_tools.specs.Check.{check, verdicts}
 use Rattle.gambit_tools.specs.Input.{most_bytes, AreBytesOf, IsInputRefusal, IsReadToEnd, CountsDetermine}
 use Rattle.gambit_tools.specs.Games.{game_in}
-use Rattle.gambit_tools.specs.Outcome.{AreRead, HasAnswer, HasReadBefore, IsComputed, IsRefusedIn, RunAnswer}
+use Rattle.gambit_tools.specs.Outcome.{AreRead, HasAnswer, HasReadBefore, ComesInTurn, IsComputed, IsRefusedIn, RunAnswer}
 use Rattle.refusals.specs.declared.refusal.Refusal.{Refusal}
 use Rattle.refusals.specs.declared.refusal.Refusal.TheVariants as refusal
 use Rattle.gambit_tools.proofs.CheckContentLemmas.{verdicts-contents}
@@ -26,7 +27,7 @@ some_bytes (Some known) = (known, refl)
 pub record IsAfterOne (before between : InputsSeen) : Type 0 where
   pub opening : between.open_faults ≡ before.open_faults
   pub reading : between.read_faults ≡ before.read_faults
-  pub once : between.selections ≤ before.selections + 1
+  pub once : between.selections ≡ next_count before.selections
   pub ends : between.ends ≡ next_count before.ends
   pub stay : (n : InputName) → between.held n ≡ before.held n
 
@@ -51,59 +52,75 @@ module _ (strategic : Bool) (bytes_name : List ℕ) (lines_name : InputName) whe
   game_name = Some bytes_name
 
   -- ---- the first input is not read
-  pub first-refused : (before after : InputsSeen) (r : Refusal) → IsInputRefusal game_name before after r → CountsDetermine before after (Some r) → after.selections ≤ before.selections + 1
-      → ((n : InputName) → after.held n ≡ before.held n) → IsComputed command before after (Err r)
-  first-refused before after refusal.OpenFault h counts few stay = record { answers = (game_name, (0, omega arith, refl), h); has_read = h.none_selected; selects_few = omega (arith, few); counts = counts; inputs_stay = stay }
-  first-refused before after refusal.ReadFault h counts few stay = record { answers = (game_name, (0, omega arith, refl), h); has_read = h.none_selected; selects_few = omega (arith, few); counts = counts; inputs_stay = stay }
-  first-refused before after refusal.TooLong h counts few stay =
+  -- it comes in its turn
+  first_turn : (before after : InputsSeen) → after.selections ≡ next_count before.selections → after.ends ≡ before.ends → ComesInTurn (game_name ∷ lines_name ∷ []) game_name before after
+  first_turn before after once ends = (0, refl, record { selections = once; ends = ends; within_limit = λ k other bytes none. absurd (omega (arith, none)) })
+
+  pub first-refused : (before after : InputsSeen) (r : Refusal) → IsInputRefusal game_name before after r → CountsDetermine before after (Some r) → after.selections ≡ next_count before.selections
+      → after.ends ≡ before.ends → ((n : InputName) → after.held n ≡ before.held n) → IsComputed command before after (Err r)
+  first-refused before after refusal.OpenFault h counts few ends stay = record { answers = (game_name, (0, omega arith, refl), h); has_read = (h.none_selected, game_name, h.failed, first_turn before after few ends); selects_few = omega (arith, few); counts = counts; inputs_stay = stay }
+  first-refused before after refusal.ReadFault h counts few ends stay = record { answers = (game_name, (0, omega arith, refl), h); has_read = (h.none_selected, game_name, h.failed, first_turn before after few ends); selects_few = omega (arith, few); counts = counts; inputs_stay = stay }
+  first-refused before after refusal.TooLong h counts few ends stay =
       (let long = too_long (before.held game_name) after.left h.taken h.count h.are_first in
       let other = some_bytes (before.held lines_name) in
       record {
         answers = record { contents = long.0 ∷ other.0 ∷ []; are_contents = (long.1, (other.1, tt)); is_answer = inl (long.2, refl) };
-        has_read = (game_name, (0, omega arith, refl), h);
+        has_read = (game_name, first_turn before after few ends, h);
         selects_few = omega (arith, few);
         counts = counts;
         inputs_stay = stay;
       })
-  first-refused before after refusal.Memory h counts few stay = record { answers = tt; has_read = inr (game_name, (0, omega arith, refl), h); selects_few = omega (arith, few); counts = counts; inputs_stay = stay }
-  first-refused before after _ h counts few stay = elim h [ ]
+  first-refused before after refusal.Memory h counts few ends stay = record { answers = tt; has_read = inr (game_name, (0, omega arith, refl), h); selects_few = omega (arith, few); counts = counts; inputs_stay = stay }
+  first-refused before after _ h counts few ends stay = elim h [ ]
 
   -- ---- the second input is not read
+  -- it comes in its turn, after the first
+  second_turn : (before between after : InputsSeen) (bytes : List ℕ) → IsAfterOne before between → AreBytesOf (before.held game_name) bytes → length bytes ≤ most_bytes → after.selections ≡ next_count between.selections → after.ends ≡ between.ends
+      → ComesInTurn (game_name ∷ lines_name ∷ []) lines_name before after
+  second_turn before between after bytes s are short once ends =
+      (1, refl, record { selections = (let first = s.once in omega (arith, first, once)); ends = ends ∙ s.ends; within_limit = within })
+    where
+      within : (k : ℕ) (other : InputName) (known : List ℕ) → k < 1 → slice_get (game_name ∷ lines_name ∷ []) k ≡ Some other → before.held other ≡ Some known → length known ≤ most_bytes
+      within zero other known l is told =
+          let same : known ≡ bytes = subst (λ held. AreBytesOf held bytes) (ap before.held (same_Some _ _ is) ∙ told) are in
+          subst (λ b. length b ≤ most_bytes) (sym same) short
+      within (suc k) other known l is told = absurd (omega (arith, l))
+
   pub second-refused : (before between after : InputsSeen) (bytes : List ℕ) (r : Refusal) → IsAfterOne before between → AreBytesOf (before.held game_name) bytes → length bytes ≤ most_bytes
-      → IsInputRefusal lines_name between after r → CountsDetermine between after (Some r) → after.selections ≤ between.selections + 1
+      → IsInputRefusal lines_name between after r → CountsDetermine between after (Some r) → after.selections ≡ next_count between.selections → after.ends ≡ between.ends
       → ((n : InputName) → after.held n ≡ between.held n) → IsComputed command before after (Err r)
-  second-refused before between after bytes refusal.OpenFault s are short h counts few stay = record {
+  second-refused before between after bytes refusal.OpenFault s are short h counts few ends stay = record {
     answers = (lines_name, (1, omega arith, refl), record { rose = subst (λ n. Rose n after.open_faults) s.opening h.rose; failed = h.failed; none_selected = h.none_selected });
-    has_read = h.none_selected;
+    has_read = (h.none_selected, lines_name, h.failed, second_turn before between after bytes s are short few ends);
     selects_few = (let once = s.once in omega (arith, few, once));
     counts = counts_after before between after (Some refusal.OpenFault) s counts;
     inputs_stay = held_after before between after s stay;
   }
-  second-refused before between after bytes refusal.ReadFault s are short h counts few stay = record {
+  second-refused before between after bytes refusal.ReadFault s are short h counts few ends stay = record {
     answers = (lines_name, (1, omega arith, refl), record { rose = subst (λ n. Rose n after.read_faults) s.reading h.rose; failed = h.failed; none_selected = h.none_selected });
-    has_read = h.none_selected;
+    has_read = (h.none_selected, lines_name, h.failed, second_turn before between after bytes s are short few ends);
     selects_few = (let once = s.once in omega (arith, few, once));
     counts = counts_after before between after (Some refusal.ReadFault) s counts;
     inputs_stay = held_after before between after s stay;
   }
-  second-refused before between after bytes refusal.TooLong s are short h counts few stay =
+  second-refused before between after bytes refusal.TooLong s are short h counts few ends stay =
       (let first = subst (λ held. Consumes held after.left h.taken) (s.stay lines_name) h.are_first in
       let long = too_long (before.held lines_name) after.left h.taken h.count first in
       record {
         answers = record { contents = bytes ∷ long.0 ∷ []; are_contents = (are, (long.1, tt)); is_answer = inr (tt, (λ more. omega (arith, short, more)), inl (long.2, refl)) };
-        has_read = (lines_name, (1, omega arith, refl), record { selected = h.selected; taken = h.taken; count = h.count; are_first = first });
+        has_read = (lines_name, second_turn before between after bytes s are short few ends, record { selected = h.selected; taken = h.taken; count = h.count; are_first = first });
         selects_few = (let once = s.once in omega (arith, few, once));
         counts = counts_after before between after (Some refusal.TooLong) s counts;
         inputs_stay = held_after before between after s stay;
       })
-  second-refused before between after bytes refusal.Memory s are short h counts few stay = record {
+  second-refused before between after bytes refusal.Memory s are short h counts few ends stay = record {
     answers = tt;
     has_read = inr (lines_name, (1, omega arith, refl), h);
     selects_few = (let once = s.once in omega (arith, few, once));
     counts = counts_after before between after (Some refusal.Memory) s counts;
     inputs_stay = held_after before between after s stay;
   }
-  second-refused before between after bytes _ s are short h counts few stay = elim h [ ]
+  second-refused before between after bytes _ s are short h counts few ends stay = elim h [ ]
 
   -- ---- both are read
   pub record AreBothRead (before after : InputsSeen) (bytes lines : List ℕ) : Type 0 where
@@ -119,7 +136,7 @@ module _ (strategic : Bool) (bytes_name : List ℕ) (lines_name : InputName) whe
 
   -- one input after the other
   pub both-read : (before between after : InputsSeen) (bytes lines : List ℕ) → IsAfterOne before between → AreBytesOf (before.held game_name) bytes → AreBytesOf (between.held lines_name) lines
-      → length bytes ≤ most_bytes → length lines ≤ most_bytes → IsReadToEnd lines_name after → CountsDetermine between after None → after.selections ≤ between.selections + 1 → after.ends ≡ next_count between.ends
+      → length bytes ≤ most_bytes → length lines ≤ most_bytes → IsReadToEnd lines_name after → CountsDetermine between after None → after.selections ≡ next_count between.selections → after.ends ≡ next_count between.ends
       → ((n : InputName) → after.held n ≡ between.held n) → AreBothRead before after bytes lines
   both-read before between after bytes lines s are_bytes are_lines few_bytes few_lines read counts few ends stay = record {
     are_bytes = are_bytes;

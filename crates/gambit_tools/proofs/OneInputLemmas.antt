@@ -9,7 +9,7 @@ use Rattle.game_core.specs.declared.game.Game.{Game}
 use Rattle.gambit_tools.specs.Input.{most_bytes, AreBytesOf, IsInputRefusal, IsReadToEnd, CountsDetermine}
 use Rattle.gambit_tools.specs.Games.{game_in}
 use Rattle.gambit_tools.specs.Commands.{inputs_of, tool_of, game_answer, answer_of}
-use Rattle.gambit_tools.specs.Outcome.{AreContents, AreRead, RunAnswer, HasAnswer, HasReadBefore, IsComputed, IsRefusedIn, SelectsFew}
+use Rattle.gambit_tools.specs.Outcome.{AreContents, AreRead, RunAnswer, HasAnswer, HasReadBefore, ComesInTurn, IsComputed, IsRefusedIn, SelectsFew}
 use Rattle.refusals.specs.declared.refusal.Refusal.{Refusal}
 use Rattle.refusals.specs.declared.refusal.Refusal.TheVariants as refusal
 use Rattle.gambit_tools.proofs.ContentLaws.{game_in-contents, game_in-too_long, tool_of-contents}
@@ -30,8 +30,16 @@ one_answer (Make number rows columns workers) name bytes answer one g = absurd (
 one_answer command name bytes answer one g = g
 
 -- one selection is made for the one input
-one_selection : (command : Command) (name : InputName) (before after : InputsSeen) → inputs_of command ≡ name ∷ [] → after.selections ≤ before.selections + 1 → SelectsFew (inputs_of command) before after
-one_selection command name before after one few = subst (λ names. SelectsFew names before after) (sym one) few
+one_selection : (command : Command) (name : InputName) (before after : InputsSeen) → inputs_of command ≡ name ∷ [] → after.selections ≡ next_count before.selections → SelectsFew (inputs_of command) before after
+one_selection command name before after one once =
+    let few : SelectsFew (name ∷ []) before after = omega (arith, once) in
+    subst (λ names. SelectsFew names before after) (sym one) few
+
+-- the one input comes in its turn
+one_in_turn : (command : Command) (name : InputName) (before after : InputsSeen) → inputs_of command ≡ name ∷ [] → after.selections ≡ next_count before.selections → after.ends ≡ before.ends → ComesInTurn (inputs_of command) name before after
+one_in_turn command name before after one once ends =
+    let turn : ComesInTurn (name ∷ []) name before after = (0, refl, record { selections = once; ends = ends; within_limit = λ k other bytes none. absurd (omega (arith, none)) }) in
+    subst (λ names. ComesInTurn names name before after) (sym one) turn
 
 -- an input of which too many bytes were read is too long
 pub too_long : (held left : Option (List ℕ)) (taken : List ℕ) → length taken ≡ most_bytes + 1 → Consumes held left taken → (bytes : List ℕ) × AreBytesOf held bytes × (most_bytes < length bytes)
@@ -45,20 +53,20 @@ counts_none before after r h = record { opening = λ l. (let e = h.opening l in 
 
 -- an input that is not read
 pub refused-computed : (command : Command) (name : InputName) (before after : InputsSeen) (r : Refusal) → inputs_of command ≡ name ∷ [] → IsInputRefusal name before after r → CountsDetermine before after (Some r)
-    → after.selections ≤ before.selections + 1 → ((n : InputName) → after.held n ≡ before.held n) → IsComputed command before after (Err r)
-refused-computed command name before after refusal.OpenFault one h counts few stay = record { answers = (name, the_input command name one, h); has_read = h.none_selected; selects_few = one_selection command name before after one few; counts = counts; inputs_stay = stay }
-refused-computed command name before after refusal.ReadFault one h counts few stay = record { answers = (name, the_input command name one, h); has_read = h.none_selected; selects_few = one_selection command name before after one few; counts = counts; inputs_stay = stay }
-refused-computed command name before after refusal.TooLong one h counts few stay =
+    → after.selections ≡ next_count before.selections → after.ends ≡ before.ends → ((n : InputName) → after.held n ≡ before.held n) → IsComputed command before after (Err r)
+refused-computed command name before after refusal.OpenFault one h counts few ends stay = record { answers = (name, the_input command name one, h); has_read = (h.none_selected, name, h.failed, one_in_turn command name before after one few ends); selects_few = one_selection command name before after one few; counts = counts; inputs_stay = stay }
+refused-computed command name before after refusal.ReadFault one h counts few ends stay = record { answers = (name, the_input command name one, h); has_read = (h.none_selected, name, h.failed, one_in_turn command name before after one few ends); selects_few = one_selection command name before after one few; counts = counts; inputs_stay = stay }
+refused-computed command name before after refusal.TooLong one h counts few ends stay =
     (let long = too_long (before.held name) after.left h.taken h.count h.are_first in
     record {
       answers = record { contents = long.0 ∷ []; are_contents = one_content command name before long.0 one long.1; is_answer = one_answer command name long.0 (Err refusal.TooLong) one (inl (game_in-too_long long.0 long.2)) };
-      has_read = (name, the_input command name one, h);
+      has_read = (name, one_in_turn command name before after one few ends, h);
       selects_few = one_selection command name before after one few;
       counts = counts;
       inputs_stay = stay;
     })
-refused-computed command name before after refusal.Memory one h counts few stay = record { answers = tt; has_read = inr (name, the_input command name one, h); selects_few = one_selection command name before after one few; counts = counts; inputs_stay = stay }
-refused-computed command name before after _ one h counts few stay = elim h [ ]
+refused-computed command name before after refusal.Memory one h counts few ends stay = record { answers = tt; has_read = inr (name, the_input command name one, h); selects_few = one_selection command name before after one few; counts = counts; inputs_stay = stay }
+refused-computed command name before after _ one h counts few ends stay = elim h [ ]
 
 -- ---- inputs that are read
 -- an input that is read to its end, and no count rose
@@ -69,7 +77,7 @@ pub record IsRead (command : Command) (name : InputName) (before after : InputsS
   pub read : IsReadToEnd name after
   pub ends : after.ends ≡ next_count before.ends
   pub counts : CountsDetermine before after None
-  pub once : after.selections ≤ before.selections + 1
+  pub once : after.selections ≡ next_count before.selections
   pub stay : (n : InputName) → after.held n ≡ before.held n
 
 -- that is what is read of the one input

@@ -1,5 +1,5 @@
 -- What a run does: what it answers and why, what it reads and writes, and what it tells on standard error.
-use Rattle.std.specs.Prelude.{ℕ, ◌+◌, ◌<◌, ◌≤◌, ◌≡◌, ◌⊎◌, true, List, [], ◌∷◌, length, take, Contains, Option, None, Some, Ok, Err, Result}
+use Rattle.std.specs.Prelude.{ℕ, zero, suc, ◌+◌, ◌<◌, ◌≤◌, ◌≡◌, ◌⊎◌, true, List, [], ◌∷◌, length, slice_get, take, Contains, Option, None, Some, Ok, Err, Result}
 use Rattle.std.specs.Result.{result_err}
 use Rattle.outside.specs.Counts.{Rose, count_of_more}
 use Rattle.outside.specs.Inputs.{InputName, InputsSeen}
@@ -7,7 +7,7 @@ use Rattle.outside.specs.Sink.{SinkSeen, Takes}
 use Rattle.words.specs.Words.{Command, command_from}
 use Rattle.words.specs.declared.Usage.{Usage}
 use Rattle.gambit_tools.specs.Seen.{Outside, Seen, but_for_err}
-use Rattle.gambit_tools.specs.Input.{AreBytesOf, IsOpenFault, IsReadFault, IsReadToEnd, IsReadTooFar, CountsDetermine}
+use Rattle.gambit_tools.specs.Input.{most_bytes, AreBytesOf, IsOpenFault, IsReadFault, IsReadToEnd, IsReadTooFar, CountsDetermine}
 use Rattle.gambit_tools.specs.Commands.{inputs_of, answer_of}
 use Rattle.gambit_tools.specs.Origins.{Origin, Words, OutsideFault, Length, Contents, Memory, Fault, Opening, Reading, Writing, origin}
 use Rattle.refusals.specs.Refusals.{run_status, refusal_line}
@@ -58,13 +58,34 @@ abbrev pub AreRead : List InputName → InputsSeen → InputsSeen → Type 0
 AreRead [] before after = after ≡ before
 AreRead (name ∷ names) before after = AreReadToEnd (name ∷ names) before after
 
+-- the count of met ends after so many more
+abbrev pub with_ends : ℕ → ℕ → ℕ
+with_ends ends zero = ends
+with_ends ends (suc more) = count_of_more ends (suc more)
+
+-- the inputs before a place among these names were read to their ends and have no more bytes than an
+-- input may have; then the one at the place was selected, and none of them was selected again
+pub record IsInTurn (names : List InputName) (place : ℕ) (before after : InputsSeen) : Type 0 where
+  pub selections : after.selections ≡ count_of_more before.selections (suc place)
+  pub ends : after.ends ≡ with_ends before.ends place
+  pub within_limit : (k : ℕ) (name : InputName) (bytes : List ℕ) → k < place
+      → slice_get names k ≡ Some name → before.held name ≡ Some bytes → length bytes ≤ most_bytes
+
+-- what was read of inputs with these names where the one with this name could not be read, or not to its
+-- end: it came in its turn
+abbrev pub ComesInTurn : List InputName → InputName → InputsSeen → InputsSeen → Type 0
+ComesInTurn names name before after =
+    (place : ℕ) × (slice_get names place ≡ Some name) × IsInTurn names place before after
+
 -- what was read of inputs with these names before a refusal with this origin
 abbrev pub HasReadBefore : List InputName → InputsSeen → InputsSeen → Origin → Type 0
 HasReadBefore names before after (Words usage) = after ≡ before
 HasReadBefore names before after (OutsideFault Writing) = AreRead names before after
-HasReadBefore names before after (OutsideFault _) = after.selected ≡ None
+HasReadBefore names before after (OutsideFault _) =
+    (after.selected ≡ None) × (name : InputName) × (after.failed ≡ Some name)
+    × ComesInTurn names name before after
 HasReadBefore names before after Length =
-    (name : InputName) × Contains names name × IsReadTooFar name before after
+    (name : InputName) × ComesInTurn names name before after × IsReadTooFar name before after
 HasReadBefore names before after Contents = AreRead names before after
 HasReadBefore names before after Memory =
     (after ≡ before) ⊎ ((name : InputName) × Contains names name × (after.selected ≡ Some name))

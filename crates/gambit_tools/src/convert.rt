@@ -55,7 +55,7 @@ fn strategic_layout(
 /// Reads the game in a file, or on standard input where no file is named, and lays out its strategic
 /// form, in HTML or for the LaTeX package sgame. The row player and the column player are numbered
 /// from 1.
-pub fn convert<I: Inputs>(
+pub(crate) fn convert<I: Inputs>(
     alloc: Global,
     layout: Layout,
     row: u32,

@@ -8,8 +8,8 @@ ghost use Rattle.gambit_tools.specs.Games.{BeginsAsTree, tree_game, table_game, 
 ghost use Rattle.gambit_tools.specs.Reading.{ReadsGame};
 
 use crate::input::read_input;
-use game_core::Game;
-use game_text::{Token, Tokens, read_tokens};
+use game_core::{Game, Token, Tokens};
+use game_text::read_tokens;
 use outside::Inputs;
 use refusals::Refusal;
 use std::alloc::Global;
@@ -65,7 +65,7 @@ fn game_of_tokens(alloc: Global, tokens: &Tokens) -> Result<Game, Refusal>
 }
 
 /// The game that the bytes stand for.
-pub fn game_in(alloc: Global, bytes: &[u8]) -> Result<Game, Refusal>
+pub(crate) fn game_in(alloc: Global, bytes: &[u8]) -> Result<Game, Refusal>
     requires few { length bytes.now ≤ most_bytes }
     ensures { Gives Refusal.Memory (game_in bytes.now) result }
 {
@@ -74,7 +74,7 @@ pub fn game_in(alloc: Global, bytes: &[u8]) -> Result<Game, Refusal>
 }
 
 /// Reads the game in a file, or on standard input where no file is named.
-pub fn read_game<I: Inputs>(
+pub(crate) fn read_game<I: Inputs>(
     alloc: Global,
     inputs: &mut I,
     file: Option<String>,

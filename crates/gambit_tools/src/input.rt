@@ -106,7 +106,7 @@ fn read_selected<I: Inputs>(alloc: Global, inputs: &mut I) -> Result<Vec<u8>, Re
 }
 
 /// Selects an input and reads it to its end, or to the first byte above the limit.
-pub fn read_input<I: Inputs>(
+pub(crate) fn read_input<I: Inputs>(
     alloc: Global,
     inputs: &mut I,
     name: Option<String>,
@@ -127,7 +127,8 @@ pub fn read_input<I: Inputs>(
         ((I.seen inputs.new).open_faults ≡ (I.seen inputs.old).open_faults) }
     ensures read_faults { OnOk result
         ((I.seen inputs.new).read_faults ≡ (I.seen inputs.old).read_faults) }
-    ensures selections { (I.seen inputs.new).selections ≤ (I.seen inputs.old).selections + 1 }
+    ensures selections { (I.seen inputs.new).selections
+        ≡ next_count (I.seen inputs.old).selections }
     ensures held { (n : InputName) → (I.seen inputs.new).held n ≡ (I.seen inputs.old).held n }
 {
     match inputs.select(name) {

@@ -12,7 +12,7 @@ use two_player_tools::lcp_text;
 
 /// Reads the game in a file, or on standard input where no file is named, and prints an equilibrium
 /// of it: of a tree, where `perfect` is set, one that is found subgame by subgame.
-pub fn lcp<I: Inputs>(
+pub(crate) fn lcp<I: Inputs>(
     alloc: Global,
     strategic: bool,
     perfect: bool,

@@ -85,7 +85,7 @@ fn extreme_equilibria<R: Threads + Sync, G: Gate>(
 /// Reads the game in a file, or on standard input where no file is named, and lists its extreme
 /// equilibria. Where not all are asked for, strictly dominated strategies are set aside first. The
 /// crew shares the enumeration. Neither setting changes what is listed.
-pub fn enummixed<R: Threads + Sync, I: Inputs, G: Gate>(
+pub(crate) fn enummixed<R: Threads + Sync, I: Inputs, G: Gate>(
     crew: &Crew<R, G>,
     alloc: Global,
     all: bool,

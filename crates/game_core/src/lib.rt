@@ -2,7 +2,7 @@
 //! tokens of their files with their offsets; and tables whose payoffs are drawn from a seed.
 //!
 //! Callers may rely on: a `Table` and a `Tree` keep their invariants; `trees_are_game_trees`;
-//! `tree_parts` has the parts of its game; `last_moves` the last moves above its nodes;
+//! the methods of a `Tree` give the parts of its game; `last_moves` the last moves above its nodes;
 //! `made_games_pay_draws`, of `make_table`.
 //! Definitions: `specs::Table` and `TreeGame` say what a table and a tree stand for (`game_of`,
 //! `game_of_tree`), `Tree` what makes one, `LastMoves` which moves are the last, `Limits` when a count
@@ -26,7 +26,7 @@ mod text_limit;
 mod token;
 mod too_large;
 mod tree;
-pub mod tree_parts;
+mod tree_parts;
 
 pub use game::Game;
 pub use made_table::{made_games_pay_draws, make_table};

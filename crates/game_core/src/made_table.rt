@@ -7,7 +7,7 @@ ghost use Rattle.game_core.specs.MadeTableLaws.{MadeGamesPayDraws};
 use crate::draws::made_payoffs;
 use crate::name::Name;
 use crate::table::Table;
-use frac128::Memory;
+use answers::Memory;
 use std::alloc::Global;
 
 // So many empty names.

@@ -5,8 +5,7 @@ ghost use Rattle.game_core.specs.LastMoves.{AreLastMoves, AreMovesBefore};
 ghost use Rattle.game_core.specs.TreeGame.{game_of_tree};
 
 use crate::tree::Tree;
-use crate::tree_parts::{branch, choice_at, parent, stands_for_game_tree};
-use frac128::Memory;
+use answers::Memory;
 use std::alloc::Global;
 
 /// A move on the way to a node: the node at which it is made, its set, and the action that leads on.
@@ -28,11 +27,11 @@ fn climb(
     requires last { AreLastMoves (game_of_tree tree.now) from last.old }
     ensures { AreLastMoves (game_of_tree tree.now) to last.new }
 {
-    stands_for_game_tree(tree);
+    tree.stands_for_game_tree();
     let mut here = from;
     while here != to {
-        here = parent(tree, here);
-        if let Some((player, _)) = choice_at(tree, here) {
+        here = tree.parent(here);
+        if let Some((player, _)) = tree.choice_at(here) {
             last[player as usize] = before[here];
         }
     }
@@ -45,10 +44,10 @@ fn descend(tree: &Tree, last: &mut [Option<LastMove>], node: usize)
     requires last { let t = game_of_tree tree.now in AreLastMoves t (t.parent node) last.old }
     ensures { AreLastMoves (game_of_tree tree.now) node last.new }
 {
-    stands_for_game_tree(tree);
-    let above = parent(tree, node);
-    if let Some((player, set)) = choice_at(tree, above) {
-        last[player as usize] = Some((above, set, branch(tree, node)));
+    tree.stands_for_game_tree();
+    let above = tree.parent(node);
+    if let Some((player, set)) = tree.choice_at(above) {
+        last[player as usize] = Some((above, set, tree.branch(node)));
     }
 }
 
@@ -62,17 +61,17 @@ pub fn last_moves(alloc: Global, tree: &Tree) -> Result<Vec<Option<LastMove>>, M
     ensures so_many { IfOk result (λ moves. length moves.items ≡ length tree.now.nodes) }
     ensures moves { IfOk result (λ moves. AreMovesBefore (game_of_tree tree.now) moves.items) }
 {
-    stands_for_game_tree(tree);
+    tree.stands_for_game_tree();
     let mut room = vec![in alloc; None; tree.players().len()]?;
     let last = room.as_mut_slice();
     let mut moves = Vec::new(alloc);
     for node in 0..tree.nodes().len() {
         if node > 0 {
-            let above = parent(tree, node);
+            let above = tree.parent(node);
             climb(tree, moves.as_slice(), last, node - 1, above);
             descend(tree, last, node);
         }
-        let move_before = match choice_at(tree, node) {
+        let move_before = match tree.choice_at(node) {
             Some((player, _)) => last[player as usize],
             None => None,
         };

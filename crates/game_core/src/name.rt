@@ -1,7 +1,7 @@
 // Names of players, strategies and games.
 ghost use Rattle.std.specs.Prelude.{◌≡◌, IfOk};
 
-use frac128::Memory;
+use answers::Memory;
 use std::alloc::{AllocError, Global};
 use std::marker::Model;
 

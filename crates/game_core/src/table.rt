@@ -4,7 +4,8 @@ ghost use Rattle.game_theory.specs.Profiles.{IsProfile, number_of, profile_count
 ghost use Rattle.game_core.specs.Table.{IsTable, GameTable, game_of, strategy_counts, most_payoffs};
 
 use crate::name::Name;
-use frac128::{Frac, Memory};
+use answers::Memory;
+use frac128::Frac;
 use std::alloc::Global;
 use std::marker::Model;
 

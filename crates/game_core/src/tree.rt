@@ -8,7 +8,8 @@ ghost use Rattle.game_core.specs.Tree.{IsGameTree, IsBelow, GameTree};
 ghost use Rattle.game_core.specs.TreeGame.{game_of_tree};
 
 use crate::name::Name;
-use frac128::{Frac, Memory};
+use answers::Memory;
+use frac128::Frac;
 use std::alloc::Global;
 use std::marker::Model;
 

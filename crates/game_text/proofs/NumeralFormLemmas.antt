@@ -7,9 +7,10 @@ use Rattle.std.proofs.lemmas.List.{append-nil, take-append-drop}
 use Rattle.std.proofs.lemmas.Option.{cond_some, same_Some}
 use Rattle.std.specs.Char.{IsAsciiDigit, is_ascii_digit}
 use Rattle.std.specs.List.{All, AllByRecursion, list_all, prefix_len, take_while}
+use Rattle.std.specs.Str.Parse.{digits_value}
 use Rattle.lists.proofs.OptionLemmas.{either}
 use Rattle.frac128.specs.Fraction.{with_sign}
-use Rattle.game_text.specs.Digits.{AreDigits, digits_value}
+use Rattle.game_text.specs.Digits.{AreDigits}
 use Rattle.game_text.specs.Numbers.{NumberForm, Fraction, Decimal, IsSign, IsMantissa, IsExponent, IsWritten}
 use Rattle.game_text.specs.NumberReading.{is_minus, after_sign, following, is_zero, are_digits, power_of, with_power, decimal_of, fraction_of, form_with}
 use Rattle.game_text.proofs.DigitLemmas.{passes_digits, digits_pass, each_passes, front_digits, zeros_value, others_value}
@@ -128,22 +129,22 @@ digits_again text h = and_from _ _ (digits_pass text h.digits) (bytes_some text 
 
 -- ---- exponents
 -- no digits stand for the exponent 0
-no_digits : with_sign false (digits_value []) ≡ pos 0
+no_digits : with_sign false (digits_value 10 []) ≡ pos 0
 no_digits = refl
 
 -- an exponent that is read is written so
-pub power_found : (text : List ℕ) (power : Bool × List ℕ) → power_of text ≡ Some power → IsExponent text (with_sign power.0 (digits_value power.1)) × AllByRecursion IsAsciiDigit power.1
+pub power_found : (text : List ℕ) (power : Bool × List ℕ) → power_of text ≡ Some power → IsExponent text (with_sign power.0 (digits_value 10 power.1)) × AllByRecursion IsAsciiDigit power.1
 unfolding power_of
 power_found [] power e =
     let p : (false, []) ≡ power = same_Some _ power e in
-    subst (λ (x : Bool × List ℕ). IsExponent [] (with_sign x.0 (digits_value x.1)) × AllByRecursion IsAsciiDigit x.1) p (inl (refl, no_digits), tt)
+    subst (λ (x : Bool × List ℕ). IsExponent [] (with_sign x.0 (digits_value 10 x.1)) × AllByRecursion IsAsciiDigit x.1) p (inl (refl, no_digits), tt)
 power_found (b ∷ bytes) power e =
     let p = cond_some ((b == 101 || b == 69) && are_digits (after_sign bytes)) (is_minus bytes, after_sign bytes) power e in
     let q = and_parts (b == 101 || b == 69) (are_digits (after_sign bytes)) p.0 in
     let letter : (b ≡ 101) ⊎ (b ≡ 69) = elim (or_cases (b == 101) (b == 69) q.0) [ inl f ↦ inl (same_byte b 101 f) | inr f ↦ inr (same_byte b 69 f) ] in
     let s = sign_found bytes in
     let d = digits_tested (after_sign bytes) q.1 in
-    subst (λ (x : Bool × List ℕ). IsExponent (b ∷ bytes) (with_sign x.0 (digits_value x.1)) × AllByRecursion IsAsciiDigit x.1) p.1
+    subst (λ (x : Bool × List ℕ). IsExponent (b ∷ bytes) (with_sign x.0 (digits_value 10 x.1)) × AllByRecursion IsAsciiDigit x.1) p.1
     (inr (b, letter, s.sign, after_sign bytes, is_minus bytes, s.is_sign, d, ap (λ t. b ∷ t) s.is, refl), d.digits)
 
 -- so the digits of an exponent are digits
@@ -154,7 +155,7 @@ power_digits text power e = All-from_recursion IsAsciiDigit power.1 (power_found
 record Again (text : List ℕ) (exponent : ℤ) : Type 0 where
   power : Bool × List ℕ
   read : power_of text ≡ Some power
-  is : exponent ≡ with_sign power.0 (digits_value power.1)
+  is : exponent ≡ with_sign power.0 (digits_value 10 power.1)
 
 -- the letter of an exponent passes the test
 letter_test : (letter : ℕ) → (letter ≡ 101) ⊎ (letter ≡ 69) → (letter == 101 || letter == 69) ≡ true
@@ -214,7 +215,7 @@ digits_some : (before after : List ℕ) → 0 < length before + length after →
 digits_some before after h = grind (arith, nat_tests)
 
 -- a decimal that is read has an exponent
-with_power_found : (negative : Bool) (before after : List ℕ) (o : Option (Bool × List ℕ)) (form : NumberForm) → with_power negative before after o ≡ Some form → (power : Bool × List ℕ) × (o ≡ Some power) × (Decimal negative before after (with_sign power.0 (digits_value power.1)) ≡ form)
+with_power_found : (negative : Bool) (before after : List ℕ) (o : Option (Bool × List ℕ)) (form : NumberForm) → with_power negative before after o ≡ Some form → (power : Bool × List ℕ) × (o ≡ Some power) × (Decimal negative before after (with_sign power.0 (digits_value 10 power.1)) ≡ form)
 with_power_found negative before after None form e = none_some form e
 with_power_found negative before after (Some power) form e = (power, refl, same_Some _ form e)
 
@@ -238,15 +239,15 @@ decimal_again before after power negative exponent some h =
 
 -- ---- fractions
 -- digits that are not all zeros stand for no zero
-divisor_counts : (bottom : List ℕ) → AllByRecursion IsAsciiDigit bottom → list_all is_zero bottom ≡ false → digits_value bottom ≢ 0
-divisor_counts bottom all e z = let some : 0 < digits_value bottom = others_value bottom all e in omega arith
+divisor_counts : (bottom : List ℕ) → AllByRecursion IsAsciiDigit bottom → list_all is_zero bottom ≡ false → digits_value 10 bottom ≢ 0
+divisor_counts bottom all e z = let some : 0 < digits_value 10 bottom = others_value bottom all e in omega arith
 
 -- the same, of digits that were tested
-pub tested_divisor : (bottom : List ℕ) → are_digits bottom ≡ true → list_all is_zero bottom ≡ false → digits_value bottom ≢ 0
+pub tested_divisor : (bottom : List ℕ) → are_digits bottom ≡ true → list_all is_zero bottom ≡ false → digits_value 10 bottom ≢ 0
 tested_divisor bottom e f = divisor_counts bottom (digits_tested bottom e).digits f
 
 -- digits that do not stand for 0 are not all zeros
-counts_divisor : (bottom : List ℕ) → digits_value bottom ≢ 0 → list_all is_zero bottom ≡ false
+counts_divisor : (bottom : List ℕ) → digits_value 10 bottom ≢ 0 → list_all is_zero bottom ≡ false
 counts_divisor bottom ne = by (list_all is_zero bottom) refl
   where
     by : (v : Bool) → list_all is_zero bottom ≡ v → v ≡ false
@@ -264,7 +265,7 @@ fraction_found sign top bottom text negative form s all is e =
     subst (IsWritten text) p.1 (sign, s, record { digits = all; some = some_bytes top r.0 }, d, divisor_counts bottom d.digits (not_true _ q.1), is)
 
 -- a written fraction is read again
-fraction_again : (top bottom : List ℕ) (negative : Bool) → AreDigits top → AreDigits bottom → digits_value bottom ≢ 0 → fraction_of negative top bottom ≡ Some (Fraction negative top bottom)
+fraction_again : (top bottom : List ℕ) (negative : Bool) → AreDigits top → AreDigits bottom → digits_value 10 bottom ≢ 0 → fraction_of negative top bottom ≡ Some (Fraction negative top bottom)
 unfolding fraction_of
 fraction_again top bottom negative t b ne =
     rw (bytes_some top t.some, digits_again bottom b, counts_divisor bottom ne) refl

@@ -1,5 +1,5 @@
--- Decimal digits and the numbers that they stand for.
-use Rattle.std.specs.Prelude.{ℕ, ◌+◌, ◌-◌, ◌*◌, ◌<◌, ◌==◌, if◌then◌else◌, List, [], ◌∷◌, length, fold, reverse}
+-- Decimal digits.
+use Rattle.std.specs.Prelude.{ℕ, ◌<◌, ◌==◌, if◌then◌else◌, List, [], ◌∷◌, length, reverse}
 use Rattle.std.specs.Char.{IsAsciiDigit}
 use Rattle.std.specs.List.{AllByRecursion}
 
@@ -7,10 +7,6 @@ use Rattle.std.specs.List.{AllByRecursion}
 pub record AreDigits (text : List ℕ) : Type 0 where
   pub digits : AllByRecursion IsAsciiDigit text
   pub some : 0 < length text
-
--- the number that decimal digits stand for
-abbrev pub digits_value : List ℕ → ℕ
-digits_value digits = fold (λ value digit. 10 * value + (digit - 48)) 0 digits
 
 -- the digits from the first that is not 0 on
 abbrev pub without_leading_zeros : List ℕ → List ℕ

@@ -1,10 +1,11 @@
 -- Reading a number, as functions of its text, and what is answered.
-use Rattle.std.specs.Prelude.{ℕ, ◌+◌, ◌-◌, ◌*◌, ◌^◌, ◌<◌, ◌≤◌, ◌≡◌, Bool, false, if◌then◌else◌, not, ◌&&◌, ◌||◌, ◌==◌, nat_lt, List, [], ◌∷◌, length, fold, drop, Option, Some, None, Result, Ok, Err, MatchOption}
+use Rattle.std.specs.Prelude.{ℕ, ◌^◌, ◌<◌, ◌≤◌, ◌≡◌, Bool, false, if◌then◌else◌, not, ◌&&◌, ◌||◌, ◌==◌, nat_lt, List, [], ◌∷◌, length, drop, Option, Some, None, Result, Ok, Err, MatchOption}
 use Rattle.std.specs.Char.{is_ascii_digit}
 use Rattle.std.specs.List.{list_all, prefix_len, take_while}
+use Rattle.std.specs.Str.Parse.{digits_value}
 use Rattle.rational.specs.Rational.{ℚ}
 use Rattle.frac128.specs.Fraction.{with_sign}
-use Rattle.game_text.specs.Digits.{digits_value, without_leading_zeros}
+use Rattle.game_text.specs.Digits.{without_leading_zeros}
 use Rattle.frac128.specs.Short.{IsShort}
 use Rattle.game_text.specs.Numbers.{NumberForm, Fraction, Decimal, IsWithinLimits, form_value}
 use Rattle.game_text.specs.declared.number.NumberFault.{NumberFault}
@@ -25,10 +26,6 @@ after_sign (b ∷ bytes) = if b == 43 || b == 45 then bytes else b ∷ bytes
 abbrev pub following : (ℕ → Bool) → List ℕ → List ℕ
 following p bytes = drop (prefix_len p bytes) bytes
 
--- the number that digits stand for when they follow those of n
-abbrev pub digits_after : ℕ → List ℕ → ℕ
-digits_after n digits = fold (λ value digit. 10 * value + (digit - 48)) n digits
-
 abbrev pub is_zero : ℕ → Bool
 is_zero b = b == 48
 
@@ -46,7 +43,7 @@ power_of (b ∷ bytes) =
 -- a decimal with this exponent, where it has one
 abbrev pub with_power : Bool → List ℕ → List ℕ → Option (Bool × List ℕ) → Option NumberForm
 with_power negative before after None = None
-with_power negative before after (Some power) = Some (Decimal negative before after (with_sign power.0 (digits_value power.1)))
+with_power negative before after (Some power) = Some (Decimal negative before after (with_sign power.0 (digits_value 10 power.1)))
 
 -- a decimal, where it has digits and an exponent can be read
 unfoldable pub decimal_of : Bool → List ℕ → List ℕ → List ℕ → Option NumberForm
@@ -69,7 +66,7 @@ form_with negative before (b ∷ bytes) =
 -- the number that digits stand for, exactly where no more than 36 of them count
 abbrev pub GivesSize : List ℕ → Option ℕ → Type 0
 GivesSize digits answer =
-    MatchOption answer (36 < length (without_leading_zeros digits)) (λ n. (n ≡ digits_value digits) × (n < 10 ^ 36) × (length (without_leading_zeros digits) ≤ 36))
+    MatchOption answer (36 < length (without_leading_zeros digits)) (λ n. (n ≡ digits_value 10 digits) × (n < 10 ^ 36) × (length (without_leading_zeros digits) ≤ 36))
 
 -- the number, exactly where its parts are below 2^63
 abbrev pub GivesShort : ℚ → Option ℚ → Type 0

@@ -3,10 +3,11 @@
 use Rattle.std.specs.Prelude.{ℕ, ◌+◌, ◌^◌, ◌<◌, ◌≤◌, ◌≡◌, ◌≢◌, ◌⊎◌, ℤ, pos, negsuc, nat_abs, Bool, true, false, List, [], ◌∷◌, ◌++◌, length}
 use Rattle.std.specs.Char.{IsAsciiDigit}
 use Rattle.std.specs.List.{AllByRecursion}
+use Rattle.std.specs.Str.Parse.{digits_value}
 use Rattle.rational.specs.Rational.{ℚ, frac, whole, ◌*ℚ◌}
 use Rattle.frac128.specs.Fraction.{with_sign}
 use Rattle.frac128.specs.Short.{IsShort}
-use Rattle.game_text.specs.Digits.{AreDigits, digits_value, without_leading_zeros, without_trailing_zeros}
+use Rattle.game_text.specs.Digits.{AreDigits, without_leading_zeros, without_trailing_zeros}
 
 -- what the text of a number says
 pub data NumberForm : Type 0 where
@@ -32,12 +33,12 @@ abbrev pub IsExponent : List ℕ → ℤ → Type 0
 IsExponent text exponent =
     ((text ≡ []) × (exponent ≡ pos 0))
     ⊎ ((letter : ℕ) × ((letter ≡ 101) ⊎ (letter ≡ 69)) × (sign digits : List ℕ) × (negative : Bool)
-    × IsSign sign negative × AreDigits digits × (text ≡ letter ∷ sign ++ digits) × (exponent ≡ with_sign negative (digits_value digits)))
+    × IsSign sign negative × AreDigits digits × (text ≡ letter ∷ sign ++ digits) × (exponent ≡ with_sign negative (digits_value 10 digits)))
 
 -- the text is written in this form
 abbrev pub IsWritten : List ℕ → NumberForm → Type 0
 IsWritten text (Fraction negative top bottom) =
-    (sign : List ℕ) × IsSign sign negative × AreDigits top × AreDigits bottom × (digits_value bottom ≢ 0) × (text ≡ sign ++ top ++ 47 ∷ bottom)
+    (sign : List ℕ) × IsSign sign negative × AreDigits top × AreDigits bottom × (digits_value 10 bottom ≢ 0) × (text ≡ sign ++ top ++ 47 ∷ bottom)
 IsWritten text (Decimal negative before after exponent) =
     (sign mantissa power : List ℕ) × IsSign sign negative × IsMantissa mantissa before after × IsExponent power exponent × (text ≡ sign ++ mantissa ++ power)
 
@@ -48,9 +49,9 @@ ten_to (negsuc n) = frac (pos 1) (10 ^ (n + 1))
 
 -- the value of a form
 abbrev pub form_value : NumberForm → ℚ
-form_value (Fraction negative top bottom) = frac (with_sign negative (digits_value top)) (digits_value bottom)
+form_value (Fraction negative top bottom) = frac (with_sign negative (digits_value 10 top)) (digits_value 10 bottom)
 form_value (Decimal negative before after exponent) =
-    frac (with_sign negative (digits_value (before ++ after))) (10 ^ length after) *ℚ ten_to exponent
+    frac (with_sign negative (digits_value 10 (before ++ after))) (10 ^ length after) *ℚ ten_to exponent
 
 -- The form is within the limits: an exponent from -18 to 18, at most 36 digits when the leading zeros, and the trailing
 -- zeros after the point, are struck, and parts of the value below 2^63.

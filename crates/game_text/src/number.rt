@@ -2,9 +2,9 @@
 ghost use Rattle.std.specs.Prelude.{◌≡◌, ◌≢◌, List, [], ℕ, pos, IfOk, IsErrOf};
 ghost use Rattle.std.specs.Char.{IsAsciiDigit};
 ghost use Rattle.std.specs.List.{All};
+ghost use Rattle.std.specs.Str.Parse.{digits_value};
 ghost use Rattle.rational.specs.Rational.{ℚ};
 ghost use Rattle.frac128.specs.Fraction.{with_sign};
-ghost use Rattle.game_text.specs.Digits.{digits_value};
 ghost use Rattle.game_text.specs.Laws.{EveryTextHasAnAnswer};
 ghost use Rattle.game_text.specs.Numbers.{NumberForm, Fraction, Decimal, IsWritten, IsNumber, IsTooLarge, IsNoNumber};
 ghost use Rattle.game_text.specs.NumberReading.{Answers, GivesValue, decimal_of, form_with, fraction_of};
@@ -27,7 +27,7 @@ pub enum NumberFault {
 fn fraction_value(negative: bool, top: &[u8], bottom: &[u8]) -> Option<Frac>
     requires top { All IsAsciiDigit top.now }
     requires bottom { All IsAsciiDigit bottom.now }
-    requires divisor { digits_value bottom.now ≢ 0 }
+    requires divisor { digits_value 10 bottom.now ≢ 0 }
     ensures { GivesValue (Fraction negative top.now bottom.now) result }
 {
     let top = size_of(top)?;
@@ -47,7 +47,7 @@ fn decimal_value(
     requires after { All IsAsciiDigit after.now }
     requires power { All IsAsciiDigit power.now }
     ensures { GivesValue (Decimal negative before.now after.now
-        (with_sign falls (digits_value power.now))) result }
+        (with_sign falls (digits_value 10 power.now))) result }
 {
     let exponent = exponent_of(power)?;
     let after = without_trailing_zeros(after);

@@ -6,7 +6,7 @@ ghost use Rattle.std.specs.Option.{option_map};
 ghost use Rattle.game_text.specs.NumberReading.{are_digits, following, after_sign, is_minus, power_of};
 
 // Whether the text begins with a minus, and what comes after its sign, if it has one.
-pub fn split_sign(text: &[u8]) -> (bool, &[u8])
+pub(crate) fn split_sign(text: &[u8]) -> (bool, &[u8])
     ensures negative { result.0 ≡ is_minus text.now }
     ensures rest { result.1.now ≡ after_sign text.now }
 {
@@ -26,7 +26,7 @@ fn digits_count(text: &[u8]) -> usize
 
 // The digits at the front, and what comes after them.
 #[tactic(auto, using(crate::proofs::PrefixLemmas::prefix_lengths))]
-pub fn split_digits(text: &[u8]) -> (&[u8], &[u8])
+pub(crate) fn split_digits(text: &[u8]) -> (&[u8], &[u8])
     ensures front { result.0.now ≡ take_while is_ascii_digit text.now }
     ensures digits { All IsAsciiDigit result.0.now }
     ensures rest { result.1.now ≡ following is_ascii_digit text.now }
@@ -42,7 +42,7 @@ fn all_digits(text: &[u8]) -> bool
 
 // Whether the text is one or more digits.
 #[tactic(auto, unfolding(crate::specs::NumberReading::are_digits))]
-pub fn are_digits(text: &[u8]) -> bool
+pub(crate) fn are_digits(text: &[u8]) -> bool
     ensures { result ≡ are_digits text.now }
 {
     all_digits(text) && !text.is_empty()
@@ -51,7 +51,7 @@ pub fn are_digits(text: &[u8]) -> bool
 // The digits of an exponent, and whether a minus comes before them. No text is the exponent 0, which has
 // no digits.
 #[tactic(auto, unfolding(crate::specs::NumberReading::power_of))]
-pub fn split_power(text: &[u8]) -> Option<(bool, &[u8])>
+pub(crate) fn split_power(text: &[u8]) -> Option<(bool, &[u8])>
     ensures { option_map (λ power. (power.0, power.1.now)) result ≡ power_of text.now }
 {
     match text {

@@ -2,8 +2,9 @@
 ghost use Rattle.std.specs.Prelude.{◌≡◌, ◌<◌, ◌≤◌, ◌^◌, ◌++◌, MatchOption};
 ghost use Rattle.std.specs.Char.{IsAsciiDigit};
 ghost use Rattle.std.specs.List.{All, list_all};
-ghost use Rattle.game_text.specs.Digits.{digits_value, without_trailing_zeros};
-ghost use Rattle.game_text.specs.NumberReading.{GivesSize, digits_after, is_zero};
+ghost use Rattle.std.specs.Str.Parse.{digits_value, digits_value_after};
+ghost use Rattle.game_text.specs.Digits.{without_trailing_zeros};
+ghost use Rattle.game_text.specs.NumberReading.{GivesSize, is_zero};
 
 // The first number of 37 digits.
 const LONG: u128 = 1000000000000000000000000000000000000;
@@ -13,8 +14,8 @@ fn with_digits(number: u128, digits: &[u8], limit: u128) -> Option<u128>
     requires digits { All IsAsciiDigit digits.now }
     requires limit { limit ≤ 10 ^ 36 }
     requires below { number < limit }
-    ensures { MatchOption result (limit ≤ digits_after number digits.now) (λ n. (n
-        ≡ digits_after number digits.now) × (n < limit)) }
+    ensures { MatchOption result (limit ≤ digits_value_after 10 number digits.now) (λ n. (n
+        ≡ digits_value_after 10 number digits.now) × (n < limit)) }
 {
     let mut value = number;
     for digit in digits {
@@ -27,7 +28,7 @@ fn with_digits(number: u128, digits: &[u8], limit: u128) -> Option<u128>
 }
 
 // The number that digits stand for, where no more than 36 are left without the zeros before them.
-pub fn size_of(digits: &[u8]) -> Option<u128>
+pub(crate) fn size_of(digits: &[u8]) -> Option<u128>
     requires { All IsAsciiDigit digits.now }
     ensures { GivesSize digits.now result }
 {
@@ -35,7 +36,7 @@ pub fn size_of(digits: &[u8]) -> Option<u128>
 }
 
 // The same for the digits before and after a point, taken together.
-pub fn size_of_both(before: &[u8], after: &[u8]) -> Option<u128>
+pub(crate) fn size_of_both(before: &[u8], after: &[u8]) -> Option<u128>
     requires before { All IsAsciiDigit before.now }
     requires after { All IsAsciiDigit after.now }
     ensures { GivesSize (before.now ++ after.now) result }
@@ -45,24 +46,24 @@ pub fn size_of_both(before: &[u8], after: &[u8]) -> Option<u128>
 }
 
 // The size of an exponent, where it is 18 at most.
-pub fn exponent_of(digits: &[u8]) -> Option<usize>
+pub(crate) fn exponent_of(digits: &[u8]) -> Option<usize>
     requires { All IsAsciiDigit digits.now }
-    ensures { MatchOption result (18 < digits_value digits.now) (λ n. (n ≡ digits_value digits.now)
-        × (n ≤ 18)) }
+    ensures { let value = digits_value 10 digits.now in
+        MatchOption result (18 < value) (λ n. (n ≡ value) × (n ≤ 18)) }
 {
     let size = with_digits(0, digits, 19)?;
     Some(size as usize)
 }
 
 // Whether there are zeros alone.
-pub fn are_zeros(digits: &[u8]) -> bool
+pub(crate) fn are_zeros(digits: &[u8]) -> bool
     ensures { result ≡ list_all is_zero digits.now }
 {
     digits.iter().all(|b| *b == b'0')
 }
 
 // The digits up to the last that is not 0.
-pub fn without_trailing_zeros(digits: &[u8]) -> &[u8]
+pub(crate) fn without_trailing_zeros(digits: &[u8]) -> &[u8]
     ensures { result.now ≡ without_trailing_zeros digits.now }
 {
     let mut rest = digits;

@@ -10,7 +10,7 @@ fn is_blank(byte: u8) -> bool
 }
 
 /// Whether the byte is an ASCII letter.
-pub fn is_letter(byte: u8) -> bool
+pub(crate) fn is_letter(byte: u8) -> bool
     ensures { result ≡ is_letter byte }
 {
     matches!(byte, b'A'..=b'Z' | b'a'..=b'z')
@@ -30,7 +30,7 @@ fn blank_length(bytes: &[u8]) -> usize
 
 /// The bytes from the first that is no blank.
 #[tactic(auto, using(crate::proofs::PrefixLemmas::prefix_lengths))]
-pub fn without_blanks(bytes: &[u8]) -> &[u8]
+pub(crate) fn without_blanks(bytes: &[u8]) -> &[u8]
     ensures { result.now ≡ drop (prefix_len is_blank bytes.now) bytes.now }
 {
     let (_, rest) = bytes.split_at(blank_length(bytes));
@@ -38,7 +38,7 @@ pub fn without_blanks(bytes: &[u8]) -> &[u8]
 }
 
 /// How many bare bytes come before anything else.
-pub fn bare_length(bytes: &[u8]) -> usize
+pub(crate) fn bare_length(bytes: &[u8]) -> usize
     ensures { result ≡ prefix_len is_bare bytes.now }
 {
     bytes.iter().take_while(|byte| is_bare(**byte)).count()

@@ -17,7 +17,7 @@ fn spelled_byte(bytes: &[u8]) -> Option<(u8, &[u8])>
 
 /// The bytes from the quote that closes a text on, where these are after its opening quote: none where no quote
 /// closes it.
-pub fn closing(bytes: &[u8]) -> &[u8]
+pub(crate) fn closing(bytes: &[u8]) -> &[u8]
     ensures closing { result.now ≡ from_closing_quote bytes.now }
     ensures within { length result.now ≤ length bytes.now }
 {
@@ -29,7 +29,7 @@ pub fn closing(bytes: &[u8]) -> &[u8]
 }
 
 /// The text that the bytes up to the closing quote spell, with room for this many bytes.
-pub fn text(alloc: Global, bytes: &[u8], room: usize) -> Result<Vec<u8>, AllocError>
+pub(crate) fn text(alloc: Global, bytes: &[u8], room: usize) -> Result<Vec<u8>, AllocError>
     ensures { IfOk result (λ text. text.items ≡ spelled bytes.now) }
 {
     let mut text = Vec::with_capacity(alloc, room)?;

@@ -8,7 +8,7 @@ ghost use Rattle.game_text.specs.NumberReading.{GivesShort};
 use frac128::{Frac, is_short, signed};
 
 // 2^63.
-const LIMIT: u128 = 9223372036854775808;
+const TWO_TO_63: u128 = 9223372036854775808;
 
 // The greatest power of ten that one step divides by.
 const DIGITS_AT_ONCE: usize = 18;
@@ -56,7 +56,7 @@ fn raised(negative: bool, size: u128, power: usize) -> Option<Frac>
     requires { power ≤ 18 }
     ensures { GivesShort (whole (with_sign negative (size * 10 ^ power))) result }
 {
-    if size >= LIMIT {
+    if size >= TWO_TO_63 {
         return None;
     }
     let factor = u128::from(10_u64.pow(power as u32));
@@ -64,7 +64,7 @@ fn raised(negative: bool, size: u128, power: usize) -> Option<Frac>
 }
 
 // A fraction of two sizes, where it is short.
-pub fn fraction(negative: bool, top: u128, bottom: u128) -> Option<Frac>
+pub(crate) fn fraction(negative: bool, top: u128, bottom: u128) -> Option<Frac>
     requires top { top < 10 ^ 36 }
     requires bottom { bottom < 10 ^ 36 }
     requires positive { 0 < bottom }
@@ -74,7 +74,7 @@ pub fn fraction(negative: bool, top: u128, bottom: u128) -> Option<Frac>
 }
 
 // A number with so many digits after the point, times or over a power of ten, where it is short.
-pub fn decimal(
+pub(crate) fn decimal(
     negative: bool,
     size: u128,
     places: usize,

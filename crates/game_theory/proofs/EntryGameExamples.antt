@@ -53,7 +53,7 @@ stable_at_equilibrium choice e =
 equilibrium_where_stable : (x y : ℕ) → x < 2 → y < 2 → IsStable x y → IsEquilibrium entry_game (pure (both x y))
 equilibrium_where_stable x y h l best =
     record {
-      valid = record { not_negative = λ s i a p o q. sure-not_negative (both x y s) a; sum_is_one = λ s i p o. sum_to-sure 2 (both x y s) (both-below x y 2 s h l) };
+      valid = λ s i p o. record { not_negative = λ a q. sure-not_negative (both x y s) a; sum_is_one = sum_to-sure 2 (both x y s) (both-below x y 2 s h l) };
       no_better_reply = λ i choice p c. below_two (λ j. IsChoice entry_game j choice → payoff entry_game (reply entry_game (pure (both x y)) j choice) j ≤ℚ gets x y j) (λ d. best.0 (choice 0) (d 0 (omega arith) refl)) (λ d. best.1 (choice 1) (d 1 (omega arith) refl)) i p c;
     }
 
@@ -96,5 +96,5 @@ entry-equilibria =
       tree = entry-tree;
       stays_out = equilibrium_where_stable 0 0 (omega arith) (omega arith) stable-00;
       enters = equilibrium_where_stable 1 1 (omega arith) (omega arith) stable-11;
-      no_other = λ choice e. stable_pairs (choice 0) (choice 1) (choice-below 2 (choice 0) (e.valid.sum_is_one 0 0 (omega arith) refl)) (choice-below 2 (choice 1) (e.valid.sum_is_one 1 1 (omega arith) refl)) (stable_at_equilibrium choice e);
+      no_other = λ choice e. stable_pairs (choice 0) (choice 1) (choice-below 2 (choice 0) ((e.valid 0 0 (omega arith) refl).sum_is_one)) (choice-below 2 (choice 1) ((e.valid 1 1 (omega arith) refl).sum_is_one)) (stable_at_equilibrium choice e);
     }

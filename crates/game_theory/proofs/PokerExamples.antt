@@ -50,4 +50,4 @@ alice_gets = refl
 -- the law of the game
 pub poker-worth : PokerIsWorthAThird
 poker-worth =
-    record { tree = poker-tree; valid = record { not_negative = λ s i a h e l. bluffs-not_negative s a; sum_is_one = bluffs-sum }; fred = fred_gets; alice = alice_gets }
+    record { tree = poker-tree; valid = λ s i h e. record { not_negative = λ a l. bluffs-not_negative s a; sum_is_one = bluffs-sum s i h e }; fred = fred_gets; alice = alice_gets }

@@ -39,8 +39,8 @@ payoff-reply_pure g s i t j h l b =
 
 -- a pure profile is valid
 pub IsValid-pure : (ns s : List ℕ) → IsProfile ns s → IsValid ns (pure s)
-IsValid-pure ns s h =
-    record { not_negative = λ i t l b. sure-not_negative (get_or s i 0) t; sum_is_one = λ i l. sum_to-sure (get_or ns i 0) (get_or s i 0) (profile-below ns s i h l) }
+IsValid-pure ns s h i l =
+    record { not_negative = λ t b. sure-not_negative (get_or s i 0) t; sum_is_one = sum_to-sure (get_or ns i 0) (get_or s i 0) (profile-below ns s i h l) }
 
 -- the cells of a pure equilibrium
 pub NoGreaterCell-equilibrium : (g : Game) (s : List ℕ) → IsProfile g.strategies s → IsEquilibrium g (pure s) → NoGreaterCell g s

@@ -54,8 +54,8 @@ payoff-replies g m i j h = mean-replies g.strategies m (g.pays j) i h
 
 -- equal probabilities are valid together
 pub IsValid-same : (ns : List ℕ) (m n : Mixed) → ((i t : ℕ) → i < length ns → t < get_or ns i 0 → m i t ≡ n i t) → IsValid ns m → IsValid ns n
-IsValid-same ns m n e v =
-    record { not_negative = λ i t l b. subst (λ x. zero_ℚ ≤ℚ x) (e i t l b) (v.not_negative i t l b); sum_is_one = λ i l. sym (sum_to-same (get_or ns i 0) (m i) (n i) (λ t b. e i t l b)) ∙ v.sum_is_one i l }
+IsValid-same ns m n e v i l =
+    record { not_negative = λ t b. subst (λ x. zero_ℚ ≤ℚ x) (e i t l b) ((v i l).not_negative t b); sum_is_one = sym (sum_to-same (get_or ns i 0) (m i) (n i) (λ t b. e i t l b)) ∙ (v i l).sum_is_one }
 
 -- equal probabilities pay the same
 pub payoff-same : (g : Game) (m n : Mixed) (i : ℕ) → ((j t : ℕ) → j < length g.strategies → t < get_or g.strategies j 0 → m j t ≡ n j t) → payoff g m i ≡ payoff g n i

@@ -17,4 +17,4 @@ reply-not_negative t b i choice w valid s a l m = at (t.owner s) refl
 
     at : (o : Option ℕ) → t.owner s ≡ o → zero_ℚ ≤ℚ of_owner o (t.chance s a) (reply t b i choice s a)
     at None e = (w.chance_distributions s l e).not_negative a m
-    at (Some k) e = replied (is_own t i s) (valid.not_negative s k a l e m)
+    at (Some k) e = replied (is_own t i s) ((valid s k l e).not_negative a m)

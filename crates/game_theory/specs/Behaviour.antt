@@ -1,7 +1,7 @@
 -- Behaviour at the sets of a tree, and what it pays. Source: Kuhn 1953.
 use Rattle.std.specs.Prelude.{ℕ, zero, suc, ◌<◌, ◌≡◌, ◌==◌, ◌&&◌, nat_lt, Bool, true, false, if◌then◌else◌, Option, Some, None}
-use Rattle.rational.specs.Rational.{ℚ, ◌+ℚ◌, ◌*ℚ◌, ◌≤ℚ◌, zero_ℚ, one_ℚ}
-use Rattle.rational.specs.Sum.{sum_to}
+use Rattle.rational.specs.Rational.{ℚ, ◌+ℚ◌, ◌*ℚ◌, zero_ℚ, one_ℚ}
+use Rattle.rational.specs.Sum.{IsDistribution, sum_to}
 use Rattle.game_theory.specs.Mixed.{sure}
 use Rattle.game_theory.specs.Trees.{Tree}
 
@@ -9,10 +9,9 @@ use Rattle.game_theory.specs.Trees.{Tree}
 abbrev pub Behaviour : Type 0
 Behaviour = ℕ → ℕ → ℚ
 
--- at each player's set the probabilities are not negative and sum to 1
-pub record IsValid (t : Tree) (b : Behaviour) : Type 0 where
-  pub not_negative : (s i a : ℕ) → s < t.sets → t.owner s ≡ Some i → a < t.actions s → zero_ℚ ≤ℚ b s a
-  pub sum_is_one : (s i : ℕ) → s < t.sets → t.owner s ≡ Some i → sum_to (t.actions s) (b s) ≡ one_ℚ
+-- at each player's set there is a probability distribution over the actions
+abbrev pub IsValid : Tree → Behaviour → Type 0
+IsValid t b = (s i : ℕ) → s < t.sets → t.owner s ≡ Some i → IsDistribution (t.actions s) (b s)
 
 -- chance plays its own probabilities, and a player those of the behaviour
 abbrev pub of_owner : Option ℕ → ℚ → ℚ → ℚ
@@ -67,6 +66,10 @@ is_own t i s = is_index (t.owner s) i
 -- a choice has an action of each own set of player i
 abbrev pub IsChoice : Tree → ℕ → (ℕ → ℕ) → Type 0
 IsChoice t i choice = (s : ℕ) → s < t.sets → t.owner s ≡ Some i → choice s < t.actions s
+
+-- a choice has an action of each player's set
+abbrev pub IsWholeChoice : Tree → (ℕ → ℕ) → Type 0
+IsWholeChoice t choice = (s i : ℕ) → s < t.sets → t.owner s ≡ Some i → choice s < t.actions s
 
 -- a pure reply: player i chooses one action at each own set, and the others behave as before
 abbrev pub reply : Tree → Behaviour → ℕ → (ℕ → ℕ) → Behaviour

@@ -28,3 +28,7 @@ HaveOneHistory t i s =
 -- perfect recall of player i: the nodes of each own set have one own history
 abbrev pub HasPerfectRecall : Tree → ℕ → Type 0
 HasPerfectRecall t i = (s : ℕ) → t.owner s ≡ Some i → HaveOneHistory t i s
+
+-- all players have perfect recall
+abbrev pub AllRecall : Tree → Type 0
+AllRecall t = (i : ℕ) → i < t.players → HasPerfectRecall t i

@@ -9,9 +9,11 @@ use Rattle.lists.proofs.ElementLemmas.{two-elements}
 use Rattle.game_core.specs.Table.{GameTable, IsTable, game_of, strategy_counts}
 use Rattle.game_core.proofs.TableCountLemmas.{length-strategy_counts}
 use Rattle.game_theory.specs.Profiles.{Game}
-use Rattle.extreme_equilibria.specs.Elimination.{AreListed, IsDominated, AreKept, AreKeptAfter}
+use Rattle.lists.specs.Listed.{AreListed}
+use Rattle.extreme_equilibria.specs.Elimination.{IsDominated, AreKept, AreKeptAfter}
 use Rattle.extreme_equilibria.proofs.RoundLemmas.{kept-within}
-use Rattle.extreme_equilibria.proofs.KeptListLemmas.{place, listed-push, listed-same}
+use Rattle.lists.proofs.ListedLemmas.{listed-push, listed-same}
+use Rattle.extreme_equilibria.proofs.KeptListLemmas.{place}
 use Rattle.kept_strategies.specs.Kept.{most_strategies}
 
 -- at first there is none

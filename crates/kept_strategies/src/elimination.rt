@@ -3,13 +3,15 @@
 ghost use Rattle.std.specs.Prelude.{◌≡◌, ◌<◌, ◌≤◌, ◌⊎◌, ◌↔◌, ℕ, [], ◌∷◌, All, Contains, IfOk, IsTrue, length, slice_index, sum};
 ghost use Rattle.std.specs.List.Sorted.{IsStrictlyIncreasing};
 ghost use Rattle.rational.specs.Rational.{◌<ℚ◌};
-ghost use Rattle.extreme_equilibria.specs.Elimination.{AreListed, IsDominated, AreKeptAfter};
+ghost use Rattle.lists.specs.Listed.{AreListed};
+ghost use Rattle.extreme_equilibria.specs.Elimination.{IsDominated, AreKeptAfter};
 ghost use Rattle.extreme_equilibria.specs.KeptTable.{AreKeptLists};
 ghost use Rattle.extreme_equilibria.specs.TwoPlayers.{other, pays_against};
 ghost use Rattle.game_core.specs.Table.{game_of, strategy_counts, IsTable};
 ghost use Rattle.kept_strategies.specs.Kept.{most_strategies};
 
-use frac128::{Frac, Memory};
+use answers::Memory;
+use frac128::Frac;
 use game_core::Table;
 use std::alloc::Global;
 
@@ -29,7 +31,7 @@ fn payoff(table: &Table, player: u32, own: u32, against: u32) -> Frac
     }
 }
 
-// Whether a strategy pays more than another against each of these of the other player.
+// Whether `by` pays more than `strategy` against each of these strategies of the other player.
 fn pays_more(table: &Table, player: u32, others: &[u32], strategy: u32, by: u32) -> bool
     requires valid { IsTable table.now }
     requires two { length table.now.players ≡ 2 }
@@ -117,7 +119,7 @@ fn all_strategies(alloc: Global, table: &Table, player: u32) -> Result<Vec<u32>,
 
 /// Both players' kept strategies, in ascending order. In each round the removals of both players
 /// are found before any is made.
-pub fn kept_strategies(alloc: Global, table: &Table) -> Result<(Vec<u32>, Vec<u32>), Memory>
+pub(crate) fn kept_strategies(alloc: Global, table: &Table) -> Result<(Vec<u32>, Vec<u32>), Memory>
     requires valid { IsTable table.now }
     requires two { length table.now.players ≡ 2 }
     requires few { sum (strategy_counts table.now) ≤ most_strategies }

@@ -9,7 +9,8 @@ ghost use Rattle.kept_strategies.specs.Kept.{IsKeptForm, kept_of, most_strategie
 
 use crate::elimination::kept_strategies;
 use crate::kept_stop::KeptStop;
-use frac128::{Frac, Memory};
+use answers::Memory;
+use frac128::Frac;
 use game_core::{Name, Table, TooLarge, What, copied, copied_names};
 use std::alloc::Global;
 use std::marker::Model;

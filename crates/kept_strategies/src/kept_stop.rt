@@ -1,5 +1,5 @@
 // Why the kept strategies of a table are not looked for.
-use frac128::Memory;
+use answers::Memory;
 use game_core::TooLarge;
 
 /// Why the kept strategies of a table are not looked for.

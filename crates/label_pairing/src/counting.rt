@@ -4,8 +4,8 @@ ghost use Rattle.label_pairing.specs.Matches.{partner_count, AreUnions, HasBitsO
 
 use crate::candidates::Candidates;
 use crate::matching::{BLOCK, block_count, completes};
+use answers::Memory;
 use basis_enum::Vertex;
-use frac128::Memory;
 use rayon::prelude::*;
 use std::alloc::Global;
 use std::thread::Threads;
@@ -116,7 +116,7 @@ pub(crate) fn partner_counts<R: Threads + Sync>(
 }
 
 /// How many pairs there are: the partners of all vertices together.
-pub fn pair_count(counts: &[usize]) -> usize
+pub(crate) fn pair_count(counts: &[usize]) -> usize
     requires { sum counts.now < 2 ^ 64 }
     ensures { result ≡ sum counts.now }
 {

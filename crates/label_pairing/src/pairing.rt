@@ -11,8 +11,8 @@ ghost use Rattle.label_pairing.specs.declared.pairing.PairStop.TheVariants as st
 use crate::candidates::Candidates;
 use crate::counting::{pair_count, partner_counts};
 use crate::matching::matches;
+use answers::Memory;
 use basis_enum::Vertex;
-use frac128::Memory;
 use game_core::{TooLarge, What};
 use std::alloc::Global;
 use std::thread::Threads;

@@ -7,8 +7,9 @@ ghost use Rattle.label_pairing.specs.Scaling.{IsScalable, sum_steps};
 ghost use Rattle.label_pairing.specs.Stops.{scaled_in};
 ghost use Rattle.label_pairing.specs.declared.scaling.ScaleStop.TheVariants as stops;
 
+use answers::Memory;
 use basis_enum::Vertex;
-use frac128::{Frac, Memory, Unfit};
+use frac128::{Frac, Unfit};
 use std::alloc::{AllocError, AllocFailed, Global};
 
 /// Why a point was not scaled.

@@ -14,7 +14,7 @@ use Rattle.linear_systems.specs.Lex.{IsLexPositive}
 use Rattle.linear_systems.specs.Rows.{unit_at, key, Alike}
 use Rattle.linear_systems.proofs.LexLemmas.{lex_same}
 use Rattle.linear_systems.proofs.RowLemmas.{unit_self, unit_other, key_alike}
-use Rattle.linear_systems.proofs.ReachedTableauLemmas.{reached_start, reached_pivot, reached_alike}
+use Rattle.linear_systems.proofs.RowEquivalenceLemmas.{reached_start, reached_pivot, reached_alike}
 use Rattle.lemke_pivot.specs.Vectors.{image}
 use Rattle.lemke_pivot.specs.Values.{is_basic}
 use Rattle.lemke_pivot.proofs.EdgeLemmas.{swap, Almost, Start}

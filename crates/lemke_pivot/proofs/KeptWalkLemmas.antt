@@ -6,7 +6,8 @@ use Rattle.rational.proofs.Field.{not_lt_of_le}
 use Rattle.linear_systems.specs.Rows.{basic_solution, Alike, IsLexicographicRow}
 use Rattle.linear_systems.proofs.LexRowLemmas.{lex_row_by}
 use Rattle.frac128.specs.declared.steps.Unfit.{Unfit}
-use Rattle.lex_tableau.specs.Rows.{WholeTableau, tableau, IsNonbasicColumn, IsTableau, IsPivotOf}
+use Rattle.lists.specs.Listed.{IsIndexOf}
+use Rattle.lex_tableau.specs.Rows.{WholeTableau, tableau, IsTableau, IsPivotOf}
 use Rattle.lex_tableau.specs.Ratio.{variable_at, IsLeavingRow, IsRatioRow}
 use Rattle.frac128.specs.Steps.{StepFits, IsFirstUnfit}
 use Rattle.lex_tableau.specs.Pivots.{IsFittingPivot, pivot_number, steps_of_pivot}
@@ -73,13 +74,13 @@ module _ (n r : ℕ) (m : WholeTableau) (S : IsPathStart n r m) where
     walk_solved z = (o.earlier, c, o.path, z)
 
     module _ (ne : basic_solution (tableau t) (z0_of n) ≢ zero_ℚ) where
-      pub walk_stands : (t₁ : WholeTableau) → t₁ ≡ t → IsNonbasicColumn t₁ c None → ⊥
+      pub walk_stands : (t₁ : WholeTableau) → t₁ ≡ t → IsIndexOf t₁.nonbasics c None → ⊥
       walk_stands t₁ e none =
           let w = next_is_out n S.matrix S.right r S.first (map tableau o.earlier) (tableau t) c path ne in
           let a : 0 < c = w.0 in
           let b : c ≤ n + n = w.1 in
           let j = nonbasic_which n S.matrix S.right (tableau t) here.reached c a (omega arith) w.2 in
-          subst (λ m. IsNonbasicColumn m c None) e none j.0 j.1 j.2
+          subst (λ (m : WholeTableau). IsIndexOf m.nonbasics c None) e none j.0 j.1 j.2
 
       pub walk_variable : (i : ℕ) → i < n → (0 < (tableau t).basic i) × ((tableau t).basic i ≤ z0_of n)
       walk_variable i h = basic_is_variable n S.matrix S.right r S.first (map tableau o.earlier) (tableau t) c i path ne (subst (λ k. i < k) (sym rows_are) h)
@@ -91,12 +92,12 @@ module _ (n r : ℕ) (m : WholeTableau) (S : IsPathStart n r m) where
           lex_row_by n n (variable_at t.starts) w_of (tableau t) column row (λ q h. ap (λ s. get_or s q 0) o.starts ∙ S.starts q h)
           (subst (λ k. IsLexicographicRow k k (variable_at t.starts) (tableau t) column row) o.rated L)
 
-      pub walk_never : (t₁ : WholeTableau) (column : ℕ) → t₁ ≡ t → IsNonbasicColumn t c (Some column) → IsRatioRow t₁ column None → ⊥
+      pub walk_never : (t₁ : WholeTableau) (column : ℕ) → t₁ ≡ t → IsIndexOf t.nonbasics c (Some column) → IsRatioRow t₁ column None → ⊥
       walk_never t₁ column e h none =
           let w = leaving_row n S.matrix S.right r S.first (map tableau o.earlier) (tableau t) c column S.excludes_rays path ne h.0 h.1 in
           not_lt_of_le ((tableau t).cell w.0 column) zero_ℚ (subst (λ m. IsRatioRow m column None) e none w.0 (subst (λ k. w.0 < k) (sym o.rated) w.1.within)) w.1.positive
 
-      module _ (column row : ℕ) (h : IsNonbasicColumn t c (Some column)) (L : IsLexicographicRow n n w_of (tableau t) column row) where
+      module _ (column row : ℕ) (h : IsIndexOf t.nonbasics c (Some column)) (L : IsLexicographicRow n n w_of (tableau t) column row) where
         pub walk_next : (t' : WholeTableau) (c' later number : ℕ) → IsFittingPivot t row column t' → c' ≡ complement n ((tableau t).basic row) → later ≡ now + 1 → number ≡ pivot_number (suc (suc (length o.earlier))) → OnWalk n r m t' c' from later number
         walk_next t' c' later number p q g k =
             record {

@@ -8,11 +8,11 @@ use Rattle.rational.proofs.SumLemmas.{sum_to-zeros}
 use Rattle.linear_systems.specs.Tableau.{Tableau, left, Solves, pivot}
 use Rattle.linear_systems.specs.Lex.{IsLexPositive}
 use Rattle.linear_systems.specs.Rows.{Alike, row, key}
-use Rattle.linear_systems.specs.Reached.{IsReached, IsStart, IsVariableOf, in_row, in_column, IsCombination}
+use Rattle.linear_systems.specs.RowEquivalence.{IsRowEquivalent, IsStart, IsVariableOf, in_row, in_column, IsCombination}
 use Rattle.rational.proofs.InverseLemmas.{ne_zero_of_pos}
 use Rattle.linear_systems.proofs.AgreementLemmas.{alike_refl, alike_lex_row}
 use Rattle.linear_systems.proofs.LexRowLemmas.{keys_stay_alike}
-use Rattle.linear_systems.proofs.ReachedTableauLemmas.{reached_pivot, reached_alike}
+use Rattle.linear_systems.proofs.RowEquivalenceLemmas.{reached_pivot, reached_alike}
 use Rattle.linear_systems.proofs.PivotLemmas.{basic_r, nonbasic_c}
 use Rattle.lemke_pivot.specs.Values.{is_basic}
 use Rattle.lemke_pivot.proofs.EdgeLemmas.{swap, Pivots}
@@ -23,11 +23,11 @@ use Rattle.lemke_pivot.proofs.PivotLemmas.{basic_swap, undone, same_leaves}
 
 -- a tableau of this system, with positive keys
 pub record HasPositiveKeys (n : ℕ) (M : ℕ → ℕ → ℚ) (b : ℕ → ℚ) (t : Tableau) : Type 0 where
-  pub reached : IsReached (suc (suc (n + n))) n (start n M b) t
+  pub reached : IsRowEquivalent (suc (suc (n + n))) n (start n M b) t
   pub positive : (i : ℕ) → i < n → IsLexPositive (suc n) (key w_of t i)
 
 abbrev pub Reaches : ℕ → (ℕ → ℕ → ℚ) → (ℕ → ℚ) → Tableau → Type 0
-Reaches n M b t = IsReached (suc (suc (n + n))) n (start n M b) t
+Reaches n M b t = IsRowEquivalent (suc (suc (n + n))) n (start n M b) t
 
 pub is_start : (n : ℕ) (M : ℕ → ℕ → ℚ) (b : ℕ → ℚ) → IsStart (suc (suc (n + n))) n (start n M b)
 is_start n M b =

@@ -9,11 +9,11 @@ use Rattle.rational.proofs.Field.{*ℚ-inv, lt_irrefl}
 use Rattle.linear_systems.specs.Tableau.{Tableau, pivot}
 use Rattle.linear_systems.specs.Lex.{IsLexPositive, IsLexLess}
 use Rattle.linear_systems.specs.Rows.{key, HasDistinctVariables, IsLexicographicRow}
-use Rattle.linear_systems.specs.Reached.{IsReached, IsStart, HasSameBasis}
+use Rattle.linear_systems.specs.RowEquivalence.{IsRowEquivalent, IsStart, HasSameBasis}
 use Rattle.rational.proofs.InverseLemmas.{inv_pos, ne_zero_of_pos}
 use Rattle.linear_systems.proofs.LexLemmas.{lex_same, lex_scale, lex_add, less_trans, less_apart}
 use Rattle.linear_systems.proofs.RowLemmas.{key_same, key_other}
-use Rattle.linear_systems.proofs.ReachedTableauLemmas.{proper_pivot}
+use Rattle.linear_systems.proofs.RowEquivalenceLemmas.{proper_pivot}
 use Rattle.linear_systems.proofs.BasisLemmas.{same_key, same_cell}
 use Rattle.linear_systems.proofs.PivotLemmas.{basic_r, basic_other, nonbasic_c, cell_rc, cell_c}
 use Rattle.lemke_pivot.specs.Values.{is_basic}
@@ -64,7 +64,7 @@ undone n b t c r hc L p =
         }
 
 -- reached tableaux with the same basic variables choose the same variable to leave
-pub same_leaves : (N n : ℕ) (start t s : Tableau) (b : ℕ → ℕ) → start.rows ≡ n → IsStart N n start → IsReached N n start t → IsReached N n start s → ((v : ℕ) → is_basic t v ≡ is_basic s v) → (c d r q : ℕ) → c < t.width → d < s.width → t.nonbasic c ≡ s.nonbasic d → IsLexicographicRow n n b t c r → IsLexicographicRow n n b s d q → t.basic r ≡ s.basic q
+pub same_leaves : (N n : ℕ) (start t s : Tableau) (b : ℕ → ℕ) → start.rows ≡ n → IsStart N n start → IsRowEquivalent N n start t → IsRowEquivalent N n start s → ((v : ℕ) → is_basic t v ≡ is_basic s v) → (c d r q : ℕ) → c < t.width → d < s.width → t.nonbasic c ≡ s.nonbasic d → IsLexicographicRow n n b t c r → IsLexicographicRow n n b s d q → t.basic r ≡ s.basic q
 same_leaves N n start t s b all st R S same c d r q hc hd e L K = go (cases_eq k q)
   where
     t_rows : t.rows ≡ n

@@ -20,7 +20,8 @@ ghost use Rattle.lemke_pivot.specs.ProblemPaths.{IsLeastRow};
 ghost use Rattle.lemke_pivot.specs.Paths.{LeadsTo};
 
 use crate::path::walk;
-use frac128::{Frac, Memory};
+use answers::Memory;
+use frac128::Frac;
 use lex_tableau::{PivotCount, StartStop, System, Tableau, UnfitPivot, Work};
 use sequence_data::{Plans, Side, rows, side_counts};
 use std::alloc::Global;

@@ -35,7 +35,7 @@ pub fn no_basis_occurs_twice()
     ensures { NoBasisOccursTwice }
 {}
 
-/// A path has no more tableaux than its variables have sets.
+/// A path of a problem with n rows has at most 2^(2n + 2) tableaux.
 pub fn paths_are_short()
     ensures { PathsAreShort }
 {}
@@ -60,7 +60,8 @@ pub fn first_rows_exist()
     ensures { FirstRowsExist }
 {}
 
-/// The problem of two sides with plans, whose costs are not negative, has no ray.
+/// The problem of two sides with plans has no ray where the sums of both players' costs are not
+/// negative.
 pub fn there_is_no_ray()
     ensures { NoRay }
 {}

@@ -1,5 +1,6 @@
 // Why there is no problem.
-use frac128::{Memory, Unfit};
+use answers::Memory;
+use frac128::Unfit;
 use game_core::TooLarge;
 use lex_tableau::StartStop;
 use std::alloc::{AllocError, AllocFailed};

@@ -6,7 +6,8 @@ ghost use Rattle.lemke_pivot.specs.Systems.{AreCosts, IsSystemAt, size_at, start
 
 use crate::lcp::row_count;
 use crate::matrix::SideCosts;
-use frac128::{Frac, Memory};
+use answers::Memory;
+use frac128::Frac;
 use lex_tableau::{System, numbered};
 use std::alloc::Global;
 

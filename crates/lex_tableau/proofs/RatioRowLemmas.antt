@@ -19,7 +19,7 @@ use Rattle.linear_systems.specs.Lex.{IsLexLess}
 use Rattle.linear_systems.specs.Rows.{coefficient, key, HasDistinctVariables}
 use Rattle.linear_systems.proofs.RowLemmas.{coefficient_own, coefficient_cell, coefficient_absent}
 use Rattle.linear_systems.proofs.LexRowLemmas.{lex_first, lex_pass, lex_take, below_cases, quotients_apart}
-use Rattle.lex_tableau.specs.Rows.{WholeTableau, row_of, tableau, IsTableau, IsReachedFrom}
+use Rattle.lex_tableau.specs.Rows.{WholeTableau, row_of, tableau, IsTableau, IsRowEquivalentToStart}
 use Rattle.lex_tableau.specs.Columns.{IsColumnOf}
 use Rattle.lex_tableau.specs.Keys.{IsKeyNumber, IsPositiveIn}
 use Rattle.lex_tableau.specs.Ratio.{variable_at, quotient_of, Compares, LexCompares, IsBest}
@@ -141,7 +141,7 @@ module _ (k m : ℕ) (ss : List ℕ) (t : Tableau) (c : ℕ) where
   pub best_taken : (r : ℕ) → zero_ℚ <ℚ t.cell k c → IsBest k m ss t c (Some r) → IsLexLess (suc m) (quotient_of ss t c k) (quotient_of ss t c r) → IsBest (suc k) m ss t c (Some k)
   best_taken r h b l = lex_take k m (variable_at ss) t c r b h l
 
-  pub best_kept : (r : ℕ) (o : Ordering) → IsReachedFrom m ss t → k < m → (o ≡ Less → ⊥) → zero_ℚ <ℚ t.cell k c → IsBest k m ss t c (Some r) → LexCompares (suc m) (quotient_of ss t c k) (quotient_of ss t c r) o → IsBest (suc k) m ss t c (Some r)
+  pub best_kept : (r : ℕ) (o : Ordering) → IsRowEquivalentToStart m ss t → k < m → (o ≡ Less → ⊥) → zero_ℚ <ℚ t.cell k c → IsBest k m ss t c (Some r) → LexCompares (suc m) (quotient_of ss t c k) (quotient_of ss t c r) o → IsBest (suc k) m ss t c (Some r)
   best_kept r Less p hk n h b l = absurd (n refl)
   best_kept r Greater p hk n h b l = lex_pass k m (variable_at ss) t c r b (λ _. l)
   best_kept r Equal p hk n h b l =

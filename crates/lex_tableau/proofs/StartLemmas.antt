@@ -4,8 +4,8 @@ use Rattle.answers.specs.Answers.{Gives}
 use Rattle.rational.specs.Rational.{ℚ}
 use Rattle.frac128.specs.Steps.{Step}
 use Rattle.linear_systems.specs.Rows.{Alike}
-use Rattle.linear_systems.specs.Reached.{IsStart}
-use Rattle.linear_systems.proofs.ReachedTableauLemmas.{reached_start, reached_alike}
+use Rattle.linear_systems.specs.RowEquivalence.{IsStart}
+use Rattle.linear_systems.proofs.RowEquivalenceLemmas.{reached_start, reached_alike}
 use Rattle.whole_rows.specs.Rows.{fraction, from_place, IsRow}
 use Rattle.lex_tableau.specs.Rows.{WholeTableau, tableau, IsTableau}
 use Rattle.lex_tableau.specs.Starts.{LinearSystem, system_of, IsSystem, IsStartOf}

@@ -16,7 +16,7 @@ use Rattle.linear_systems.specs.Rows.{key}
 use Rattle.linear_systems.proofs.LexRowLemmas.{keys_stay_alike}
 use Rattle.linear_systems.proofs.PivotLemmas.{pivot_solves, cell_rc, cell_r, cell_c, cell_other, basic_r, basic_other, nonbasic_c, nonbasic_other, right_same, right_other}
 use Rattle.lex_tableau.specs.Ratio.{variable_at, KeepsPositiveKeys}
-use Rattle.linear_systems.proofs.ReachedTableauLemmas.{reached_pivot, reached_alike}
+use Rattle.linear_systems.proofs.RowEquivalenceLemmas.{reached_pivot, reached_alike}
 use Rattle.whole_rows.specs.Rows.{from_place, fraction, IsRow}
 use Rattle.lex_tableau.specs.Rows.{WholeTableau, HasSolutionsOf, whole_tableau, row_of, tableau, IsTableau, IsPivotOf, with_variables_exchanged}
 use Rattle.lex_tableau.specs.Pivots.{HasPivotRow, HasOtherRows}

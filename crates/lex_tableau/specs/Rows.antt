@@ -1,9 +1,9 @@
 -- Tableaux of whole numbers, and the tableaux of fractions that they stand for
-use Rattle.std.specs.Prelude.{ℕ, ℤ, ◌+◌, ◌*◌, ◌<◌, ◌≤◌, ◌≡◌, ◌≢◌, ◌↔◌, List, length, get_or, slice_set, Option, MatchOption}
+use Rattle.std.specs.Prelude.{ℕ, ℤ, ◌+◌, ◌*◌, ◌<◌, ◌≤◌, ◌≡◌, ◌↔◌, List, length, get_or, slice_set}
 use Rattle.rational.specs.Rational.{ℚ}
 use Rattle.linear_systems.specs.Tableau.{Tableau, Solves, pivot}
 use Rattle.linear_systems.specs.Rows.{Alike}
-use Rattle.linear_systems.specs.Reached.{IsStart, IsReached}
+use Rattle.linear_systems.specs.RowEquivalence.{IsStart, IsRowEquivalent}
 pub use Rattle.whole_rows.specs.Rows.{from_place, fraction, IsRow}
 
 -- what contracts see of a tableau: the start's basic variables, the basic and nonbasic variables,
@@ -51,27 +51,21 @@ tableau_of basics nonbasics numbers =
 abbrev pub tableau : WholeTableau → Tableau
 tableau n = tableau_of n.basics n.nonbasics n.numbers
 
--- the column in which a variable is nonbasic, or none where it stands in none
-abbrev pub IsNonbasicColumn : WholeTableau → ℕ → Option ℕ → Type 0
-IsNonbasicColumn n variable o =
-    MatchOption o ((j : ℕ) → j < length n.nonbasics → (tableau n).nonbasic j ≢ variable)
-    (λ j. (j < length n.nonbasics) × ((tableau n).nonbasic j ≡ variable))
-
--- pivots on the first `rated` rows lead to t from a start with these basic variables
-pub record IsReachedFrom (rated : ℕ) (starts : List ℕ) (t : Tableau) : Type 0 where
+-- t is row-equivalent to a start with these basic variables, as pivots on its first `rated` rows keep it
+pub record IsRowEquivalentToStart (rated : ℕ) (starts : List ℕ) (t : Tableau) : Type 0 where
   pub bound : ℕ
   pub start : Tableau
   pub begins : IsStart bound rated start
   pub basics : (i : ℕ) → i < rated → start.basic i ≡ get_or starts i 0
-  pub reached : IsReached bound rated start t
+  pub reached : IsRowEquivalent bound rated start t
 
--- a tableau: each row is one, and pivots on rated rows led to it
+-- a tableau: each row is one, and it is row-equivalent to a start
 pub record IsTableau (n : WholeTableau) : Type 0 where
   pub starts : length n.starts ≡ length n.basics
   pub rated : n.rated ≤ length n.basics
   pub shape : length n.numbers ≡ length n.basics * (length n.nonbasics + 2)
   pub rows : (i : ℕ) → i < length n.basics → IsRow (length n.nonbasics + 2) (row_of n i)
-  pub reached : IsReachedFrom n.rated n.starts (tableau n)
+  pub reached : IsRowEquivalentToStart n.rated n.starts (tableau n)
 
 -- a tableau whose numbers are others, and whose basic variable of a row and nonbasic variable of a
 -- column have changed places

@@ -3,11 +3,11 @@ ghost use Rattle.std.specs.Prelude.{◌≡◌, ◌<◌, length, get_or, slice_se
 ghost use Rattle.lex_tableau.specs.Columns.{AreColumnsOf};
 ghost use Rattle.lex_tableau.specs.Ratio.{HasEachOnce};
 
-use frac128::Memory;
+use answers::Memory;
 use std::alloc::Global;
 
 // The columns of so many basic variables, which stand in none.
-pub fn no_columns(alloc: Global, count: usize) -> Result<Vec<u32>, Memory>
+pub(crate) fn no_columns(alloc: Global, count: usize) -> Result<Vec<u32>, Memory>
     ensures { IfOk result (λ v. v.items ≡ replicate count 0) }
 {
     Ok(vec![in alloc; 0; count]?)
@@ -15,7 +15,7 @@ pub fn no_columns(alloc: Global, count: usize) -> Result<Vec<u32>, Memory>
 
 // Writes the columns of the start's variables where the basic variable of a row and the nonbasic
 // variable of a column are about to change places.
-pub fn exchange_columns(
+pub(crate) fn exchange_columns(
     columns: &mut [u32],
     starts: &[u32],
     basics: &[u32],

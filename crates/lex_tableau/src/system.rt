@@ -3,7 +3,8 @@ ghost use Rattle.std.specs.Prelude.{◌≡◌, ◌+◌, ◌<◌, ◌^◌, IfOk};
 ghost use Rattle.lex_tableau.specs.Entries.{AreNumbered};
 ghost use Rattle.lex_tableau.specs.Starts.{IsSystem, linear_system};
 
-use frac128::{Frac, Memory};
+use answers::Memory;
+use frac128::Frac;
 use std::alloc::Global;
 use std::marker::Model;
 

@@ -6,9 +6,10 @@ ghost use Rattle.linear_systems.specs.Rows.{basic_solution};
 ghost use Rattle.lex_tableau.specs.PivotStops.{IsPivotStop};
 ghost use Rattle.lex_tableau.specs.Pivots.{HasOtherRows, HasPivotRow, steps_of_pivot};
 ghost use Rattle.lex_tableau.specs.Ratio.{IsRatioRow, KeepsPositiveKeys};
-ghost use Rattle.lex_tableau.specs.Rows.{HasSolutionsOf, IsNonbasicColumn, IsPivotOf, IsTableau, tableau, with_variables_exchanged};
+ghost use Rattle.lex_tableau.specs.Rows.{HasSolutionsOf, IsPivotOf, IsTableau, tableau, with_variables_exchanged};
 ghost use Rattle.lex_tableau.specs.StartStops.{start_in};
 ghost use Rattle.lex_tableau.specs.declared.tableau.StartStop.TheVariants as start_stops;
+ghost use Rattle.lists.specs.Listed.{IsIndexOf};
 ghost use Rattle.whole_rows.specs.Lists.{AllPartsFit};
 ghost use Rattle.whole_rows.specs.Rows.{fraction as fraction_of, from_place};
 ghost use Rattle.frac128.specs.Steps.{StepFits, IsFirstUnfit};
@@ -18,7 +19,8 @@ use crate::columns::{exchange_columns, no_columns};
 use crate::pivot_count::PivotCount;
 use crate::ratio::Keys;
 use crate::system::System;
-use frac128::{Frac, Memory, Unfit};
+use answers::Memory;
+use frac128::{Frac, Unfit};
 use std::alloc::Global;
 use std::marker::Model;
 use std::mem;
@@ -305,7 +307,7 @@ impl Tableau {
 
     /// The column in which a variable is nonbasic, counted from 0; `None` where it stands in none.
     pub fn column_of(&self, variable: u32) -> Option<usize>
-        ensures column { IsNonbasicColumn self.now variable result }
+        ensures column { IsIndexOf self.now.nonbasics variable result }
         ensures valid { IsTableau self.now }
     {
         for col in 0..self.nonbasics.len() {

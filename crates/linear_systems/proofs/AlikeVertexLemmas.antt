@@ -5,12 +5,12 @@ use Rattle.linear_systems.specs.Tableau.{Tableau}
 use Rattle.linear_systems.specs.Rows.{Alike}
 use Rattle.linear_systems.proofs.AgreementLemmas.{alike_sym}
 use Rattle.linear_systems.proofs.PivotLemmas.{alike_solves}
-use Rattle.linear_systems.proofs.ReachedTableauLemmas.{stands_alike}
+use Rattle.linear_systems.proofs.RowEquivalenceLemmas.{stands_alike}
 use Rattle.linear_systems.specs.Points.{IsFeasible, IsExtremePoint, IsNonzeroAt}
 use Rattle.linear_systems.specs.Vertices.{MarkedPoint, IsMarkOf, IsVertexMark}
 use Rattle.linear_systems.specs.ExtremePointLaws.{AlikeSystemsHaveTheSameVertices}
 
-point_alike : (s t : Tableau) (x : ℕ → ℚ) → Alike s t → IsFeasible s x → IsFeasible t x
+pub point_alike : (s t : Tableau) (x : ℕ → ℚ) → Alike s t → IsFeasible s x → IsFeasible t x
 point_alike s t x a h =
     record { solves = (alike_solves s t x a).0 h.solves; nonnegative = λ v d. h.nonnegative v (stands_alike t s v (alike_sym s t a) d) }
 

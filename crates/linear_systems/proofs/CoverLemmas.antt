@@ -13,12 +13,12 @@ use Rattle.rational.proofs.Rules.{times_zero}
 use Rattle.linear_systems.specs.Tableau.{Tableau}
 use Rattle.linear_systems.specs.Lex.{IsLexLess}
 use Rattle.linear_systems.specs.Rows.{unit_at, basic_solution, coefficient, IsLexicographicRow}
-use Rattle.linear_systems.specs.Reached.{IsVariableOf, in_row, in_column}
+use Rattle.linear_systems.specs.RowEquivalence.{IsVariableOf, in_row, in_column}
 use Rattle.linear_systems.proofs.LexLemmas.{less_trans, less_apart, compare}
 use Rattle.linear_systems.proofs.LexRowLemmas.{lex_row_is}
 use Rattle.linear_systems.proofs.RowLemmas.{coefficient_absent, coefficient_cell}
 use Rattle.linear_systems.specs.Points.{IsFeasible, IsExtremePoint, AreEqualAt}
-use Rattle.linear_systems.specs.Reach.{IsFeasibleStart, IsLexReached, IsClosed, HasNeighbour}
+use Rattle.linear_systems.specs.LexFeasible.{IsFeasibleStart, IsLexFeasible, IsClosed, HasNeighbour}
 use Rattle.linear_systems.specs.ExtremePointLaws.{HasPoint}
 use Rattle.linear_systems.proofs.SmallStepLemmas.{extreme_alone}
 use Rattle.linear_systems.proofs.SolutionLemmas.{rights_nonnegative, solution_basic, solution_nonbasic, solution_point, solves_reached, Standing, in_basis, outside, absent, place}
@@ -84,7 +84,7 @@ unfolding mark
 marks p = record { nonnegative = λ v. mark_nonnegative (p v) (trichotomy (p v) zero_ℚ); none = λ v. mark_none (p v) (trichotomy (p v) zero_ℚ); some = λ v. mark_some (p v) (trichotomy (p v) zero_ℚ) }
 
 -- ---- where no column is negative, the basic solution has no weight
-no_weight : (N : ℕ) (s t : Tableau) (w p : ℕ → ℚ) → IsLexReached N s t → IsFeasible s p → Marks p w → ((j : ℕ) → j < t.width → zero_ℚ ≤ℚ reduced N w t (unit_at (t.nonbasic j)) zero_ℚ) → (i : ℕ) → i < t.rows → w (t.basic i) *ℚ t.right i ≡ zero_ℚ
+no_weight : (N : ℕ) (s t : Tableau) (w p : ℕ → ℚ) → IsLexFeasible N s t → IsFeasible s p → Marks p w → ((j : ℕ) → j < t.width → zero_ℚ ≤ℚ reduced N w t (unit_at (t.nonbasic j)) zero_ℚ) → (i : ℕ) → i < t.rows → w (t.basic i) *ℚ t.right i ≡ zero_ℚ
 no_weight N s t w p q hp m best = each_zero t.rows (λ i. w (t.basic i) *ℚ t.right i) (λ i hi. nonneg-mul (w (t.basic i)) (t.right i) (m.nonnegative (t.basic i)) (rights_nonnegative N s t i q (omega (arith, rows)))) none
   where
     rows : t.rows ≡ s.rows
@@ -104,7 +104,7 @@ no_weight N s t w p q hp m best = each_zero t.rows (λ i. w (t.basic i) *ℚ t.r
         (sum_to-nonneg N _ term, (costs_sum N w s t p q.reached (solves_reached N s t p q.reached hp.solves), (sum_to-zeros N _ (λ v hv. m.none v), (sum_to-nonneg t.rows _ (λ i hi. nonneg-mul (w (t.basic i)) (t.right i) (m.nonnegative (t.basic i)) (rights_nonnegative N s t i q (omega (arith, rows)))), tt))))
 
 -- so it is the extreme point
-best_solution : (N : ℕ) (s t : Tableau) (p : ℕ → ℚ) → IsLexReached N s t → IsExtremePoint s p → ((j : ℕ) → j < t.width → zero_ℚ ≤ℚ reduced N (mark p) t (unit_at (t.nonbasic j)) zero_ℚ) → AreEqualAt s p (basic_solution t)
+best_solution : (N : ℕ) (s t : Tableau) (p : ℕ → ℚ) → IsLexFeasible N s t → IsExtremePoint s p → ((j : ℕ) → j < t.width → zero_ℚ ≤ℚ reduced N (mark p) t (unit_at (t.nonbasic j)) zero_ℚ) → AreEqualAt s p (basic_solution t)
 best_solution N s t p q ex best = extreme_alone s p (basic_solution t) ex (solution_point N s t q) (λ v hv z. zeros v z (q.reached.variables v hv))
   where
     zeros : (v : ℕ) → p v ≡ zero_ℚ → IsVariableOf t v → basic_solution t v ≡ zero_ℚ
@@ -114,7 +114,7 @@ best_solution N s t p q ex best = extreme_alone s p (basic_solution t) ex (solut
     zeros v z (in_column j hj e) = subst (λ v. basic_solution t v ≡ zero_ℚ) e (solution_nonbasic t j q.reached.proper hj)
 
 -- a column without a positive entry is not negative
-idle_column : (N : ℕ) (s t : Tableau) (w : ℕ → ℚ) (c : ℕ) → IsLexReached N s t → ((v : ℕ) → zero_ℚ ≤ℚ w v) → c < t.width → ((i : ℕ) → i < s.rows → t.cell i c ≤ℚ zero_ℚ) → zero_ℚ ≤ℚ reduced N w t (unit_at (t.nonbasic c)) zero_ℚ
+idle_column : (N : ℕ) (s t : Tableau) (w : ℕ → ℚ) (c : ℕ) → IsLexFeasible N s t → ((v : ℕ) → zero_ℚ ≤ℚ w v) → c < t.width → ((i : ℕ) → i < s.rows → t.cell i c ≤ℚ zero_ℚ) → zero_ℚ ≤ℚ reduced N w t (unit_at (t.nonbasic c)) zero_ℚ
 idle_column N s t w c q hw hc none =
     let rows : t.rows ≡ s.rows = q.reached.rows in
     let width : t.width ≡ s.width = q.reached.width in
@@ -131,14 +131,14 @@ idle_column N s t w c q hw hc none =
     at_most (suc n) f h = linear (sum_to n f ∷ f n ∷ []) ((at 0 ⟨≤⟩ lit (pos 0)) ∷ (at 1 ⟨≤⟩ lit (pos 0)) ∷ []) ((at 0 ⟨+⟩ at 1) ⟨≤⟩ lit (pos 0)) (λ one z u v. omega (arith, ints)) (at_most n f (λ i k. h i (omega arith)), (h n (omega arith), tt))
 
 -- ---- the theorem: the greatest of the tableaux has no negative column, or its neighbour were greater
-pub covers : (N : ℕ) (s : Tableau) (K : ℕ) (ts : ℕ → Tableau) (p : ℕ → ℚ) → IsFeasibleStart N s → 0 < K → ((k : ℕ) → k < K → IsLexReached N s (ts k)) → IsClosed s K ts → IsExtremePoint s p → HasPoint s K ts p
+pub covers : (N : ℕ) (s : Tableau) (K : ℕ) (ts : ℕ → Tableau) (p : ℕ → ℚ) → IsFeasibleStart N s → 0 < K → ((k : ℕ) → k < K → IsLexFeasible N s (ts k)) → IsClosed s K ts → IsExtremePoint s p → HasPoint s K ts p
 covers N s zero ts p st h reach shut ex = absurd (omega arith)
 covers N s (suc K) ts p st h reach shut ex = go (greatest K (suc s.rows) (λ k. reduced_key N (mark p) s (ts k)))
   where
     go : Greatest (suc K) (suc s.rows) (λ k. reduced_key N (mark p) s (ts k)) → HasPoint s (suc K) ts p
     go g = record { place = g.place; within = g.within; same = best_solution N s (ts g.place) p (reach g.place g.within) ex free }
       where
-        q : IsLexReached N s (ts g.place)
+        q : IsLexFeasible N s (ts g.place)
         q = reach g.place g.within
 
         column : (j : ℕ) → j < s.width → reduced N (mark p) (ts g.place) (unit_at ((ts g.place).nonbasic j)) zero_ℚ <ℚ zero_ℚ → ((i : ℕ) → i < s.rows → (ts g.place).cell i j ≤ℚ zero_ℚ) ⊎ ((r : ℕ) × IsLexicographicRow s.rows s.rows s.basic (ts g.place) j r) → ⊥

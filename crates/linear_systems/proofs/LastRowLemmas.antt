@@ -8,11 +8,11 @@ use Rattle.rational.proofs.Ring.{◌times◌is◌, combine, ring, num, ◌:+◌,
 use Rattle.rational.proofs.Ring as R
 use Rattle.rational.proofs.SumLemmas.{sum_to-same}
 use Rattle.linear_systems.specs.Rows.{coefficient, row}
-use Rattle.linear_systems.specs.Reached.{IsReached, IsStart}
+use Rattle.linear_systems.specs.RowEquivalence.{IsRowEquivalent, IsStart}
 use Rattle.linear_systems.proofs.RowLemmas.{coefficient_row, coefficient_basic}
 use Rattle.linear_systems.proofs.SpanLemmas.{spanned_is}
 
-pub last_row : (N m : ℕ) (s t : Tableau) (l : ℕ) (x : ℕ → ℚ) (y : ℚ) → IsStart N m s → m ≤ l → l < s.rows → IsReached N m s t → row t x y l ≡ row s x y l +ℚ sum_to m (λ q. coefficient t l (s.basic q) *ℚ row s x y q)
+pub last_row : (N m : ℕ) (s t : Tableau) (l : ℕ) (x : ℕ → ℚ) (y : ℚ) → IsStart N m s → m ≤ l → l < s.rows → IsRowEquivalent N m s t → row t x y l ≡ row s x y l +ℚ sum_to m (λ q. coefficient t l (s.basic q) *ℚ row s x y q)
 last_row N m s t l x y st ml hl p =
     let rated : m ≤ s.rows = st.rated in
     let same : row t x y l -ℚ row s x y l ≡ sum_to m (λ q. coefficient t l (s.basic q) *ℚ row s x y q) =

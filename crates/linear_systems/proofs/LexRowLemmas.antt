@@ -13,7 +13,7 @@ use Rattle.rational.proofs.Field.{*ℚ-inv, le_or_lt, lt_irrefl}
 use Rattle.rational.proofs.SumLemmas.{sum_to-same, sum_to-scale}
 use Rattle.linear_systems.specs.Lex.{IsLexPositive, IsLexLess}
 use Rattle.linear_systems.specs.Rows.{unit_at, coefficient, key, row, IsLexicographicRow, Alike}
-use Rattle.linear_systems.specs.Reached.{IsReached, IsStart}
+use Rattle.linear_systems.specs.RowEquivalence.{IsRowEquivalent, IsStart}
 use Rattle.linear_systems.proofs.LexLemmas.{lex_same, lex_scale, lex_kept, compare, less_trans, less_apart}
 use Rattle.linear_systems.proofs.RowLemmas.{key_same, key_other, key_alike, coefficient_row, coefficient_own, coefficient_basic}
 use Rattle.linear_systems.proofs.SpanLemmas.{spanned_is}
@@ -33,13 +33,13 @@ keys_stay_alike m b t u c r hm hc l a keys i hi =
     lex_same (suc m) _ _ (λ p _. key_alike b (pivot t r c) u i p a (omega arith)) (keys_stay m b t c r hc l keys i hi)
 
 -- ---- the coefficients of the start's basic variables tell the whole row
-pub row_is : (N m : ℕ) (s t : Tableau) (k : ℕ) (x : ℕ → ℚ) (y : ℚ) → IsStart N m s → IsReached N m s t → k < m → row t x y k ≡ sum_to m (λ q. coefficient t k (s.basic q) *ℚ row s x y q)
+pub row_is : (N m : ℕ) (s t : Tableau) (k : ℕ) (x : ℕ → ℚ) (y : ℚ) → IsStart N m s → IsRowEquivalent N m s t → k < m → row t x y k ≡ sum_to m (λ q. coefficient t k (s.basic q) *ℚ row s x y q)
 row_is N m s t k x y a p h =
     spanned_is m s (λ x y. row t x y k) a.proper a.rated (p.from k h) x y
     ∙ sum_to-same m _ _ (λ q _. ap (λ u. u *ℚ row s x y q) (coefficient_row t k (s.basic q)))
 
 -- so no two rated rows have their coefficients in one ratio
-pub quotients_apart : (N m : ℕ) (s t : Tableau) (i k : ℕ) (a b : ℚ) → IsStart N m s → IsReached N m s t → i < m → k < m → i ≢ k → a ≢ zero_ℚ → ((p : ℕ) → p < m → coefficient t i (s.basic p) *ℚ inv_ℚ a ≡ coefficient t k (s.basic p) *ℚ inv_ℚ b) → ⊥
+pub quotients_apart : (N m : ℕ) (s t : Tableau) (i k : ℕ) (a b : ℚ) → IsStart N m s → IsRowEquivalent N m s t → i < m → k < m → i ≢ k → a ≢ zero_ℚ → ((p : ℕ) → p < m → coefficient t i (s.basic p) *ℚ inv_ℚ a ≡ coefficient t k (s.basic p) *ℚ inv_ℚ b) → ⊥
 quotients_apart N m s t i k a b st p hi hk ne an e =
     let rows : t.rows ≡ s.rows = p.rows in
     let rated : m ≤ s.rows = st.rated in
@@ -54,7 +54,7 @@ quotients_apart N m s t i k a b st p hi hk ne an e =
     ∙ ap (λ u. inv_ℚ b *ℚ u) (sym (row_is N m s t k x zero_ℚ st p hk)) in
     lt_irrefl zero_ℚ (linear (zero_ℚ ∷ one_ℚ ∷ []) ((at 0 ⟨=⟩ at 1) ∷ (at 0 ⟨=⟩ lit (pos 0)) ∷ (at 1 ⟨=⟩ lit (pos 1)) ∷ []) (lit (pos 0) ⟨<⟩ lit (pos 0)) (λ one z u v. omega (arith, ints)) (combine rational_ring (a ∷ inv_ℚ a ∷ row t x zero_ℚ i ∷ row t x zero_ℚ k ∷ inv_ℚ b ∷ []) ((:neg A times (B :* C) is (E :* D)) ∷ (A :* B times C is num 1) ∷ (:neg (A :* E) times D is num 0) ∷ (num 1 times A :* B is num 1) ∷ []) (num 0) (num 1) refl (scaled, (at_i, (at_k, (*ℚ-inv a an, tt)))), (refl, (refl, tt))))
 
-pub quotients_differ : (N m : ℕ) (s t : Tableau) (i k : ℕ) (a b : ℚ) → IsStart N m s → IsReached N m s t → i < m → k < m → i ≢ k → a ≢ zero_ℚ → ((p : ℕ) → p < suc m → key s.basic t i p *ℚ inv_ℚ a ≡ key s.basic t k p *ℚ inv_ℚ b) → ⊥
+pub quotients_differ : (N m : ℕ) (s t : Tableau) (i k : ℕ) (a b : ℚ) → IsStart N m s → IsRowEquivalent N m s t → i < m → k < m → i ≢ k → a ≢ zero_ℚ → ((p : ℕ) → p < suc m → key s.basic t i p *ℚ inv_ℚ a ≡ key s.basic t k p *ℚ inv_ℚ b) → ⊥
 quotients_differ N m s t i k a b st p hi hk ne an e = quotients_apart N m s t i k a b st p hi hk ne an (λ q h. e (suc q) (omega arith))
 
 -- ---- the same row by keys of the same variables
@@ -114,7 +114,7 @@ pub data Scan (k m : ℕ) (b : ℕ → ℕ) (t : Tableau) (c : ℕ) : Type 0 whe
   none : ((i : ℕ) → i < k → t.cell i c ≤ℚ zero_ℚ) → Scan k m b t c
   best : (r : ℕ) → IsLexicographicRow k m b t c r → Scan k m b t c
 
-pub scan : (N k m : ℕ) (s t : Tableau) (c : ℕ) → IsStart N m s → IsReached N m s t → k ≤ m → Scan k m s.basic t c
+pub scan : (N k m : ℕ) (s t : Tableau) (c : ℕ) → IsStart N m s → IsRowEquivalent N m s t → k ≤ m → Scan k m s.basic t c
 scan N zero m s t c st p h = none (λ i q. absurd (omega arith))
 scan N (suc k) m s t c st p h = go (scan N k m s t c st p (omega arith)) (le_or_lt (t.cell k c) zero_ℚ)
   where
@@ -132,7 +132,7 @@ scan N (suc k) m s t c st p h = go (scan N k m s t c st p (omega arith)) (le_or_
     go (best r l) (inl q) = best r (lex_pass k m s.basic t c r l (λ u. absurd (lt_irrefl zero_ℚ (linear (t.cell k c ∷ []) ((at 0 ⟨≤⟩ lit (pos 0)) ∷ (lit (pos 0) ⟨<⟩ at 0) ∷ []) (lit (pos 0) ⟨<⟩ lit (pos 0)) (λ one z u v. omega (arith, ints)) (q, (u, tt))))))
     go (best r l) (inr q) = tie r l q (compare (suc m) (λ p. key s.basic t r p *ℚ inv_ℚ (t.cell r c)) (λ p. key s.basic t k p *ℚ inv_ℚ (t.cell k c)))
 
-pub lex_row_is : (N m : ℕ) (s t : Tableau) (c : ℕ) → IsStart N m s → IsReached N m s t → ((i : ℕ) → i < m → t.cell i c ≤ℚ zero_ℚ) ⊎ ((r : ℕ) × IsLexicographicRow m m s.basic t c r)
+pub lex_row_is : (N m : ℕ) (s t : Tableau) (c : ℕ) → IsStart N m s → IsRowEquivalent N m s t → ((i : ℕ) → i < m → t.cell i c ≤ℚ zero_ℚ) ⊎ ((r : ℕ) × IsLexicographicRow m m s.basic t c r)
 lex_row_is N m s t c st p = go (scan N m m s t c st p (omega arith))
   where
     go : Scan m m s.basic t c → ((i : ℕ) → i < m → t.cell i c ≤ℚ zero_ℚ) ⊎ ((r : ℕ) × IsLexicographicRow m m s.basic t c r)

@@ -10,7 +10,7 @@ use Rattle.rational.proofs.Linear.{linear, at, lit, ◌⟨+⟩◌, ◌⟨-⟩◌
 use Rattle.rational.proofs.Field.{le_refl, le_of_lt, eq_or_lt_of_le, le-mul_left, nonneg-mul, *ℚ-inv}
 use Rattle.rational.proofs.SumLemmas.{sum_to-same, sum_to-add, sum_to-scale}
 use Rattle.linear_systems.specs.Tableau.{Tableau, left, Solves}
-use Rattle.linear_systems.specs.Reached.{IsVariableOf, in_row, in_column}
+use Rattle.linear_systems.specs.RowEquivalence.{IsVariableOf, in_row, in_column}
 use Rattle.linear_systems.specs.Points.{IsFeasible, IsExtremePoint, AreEqualAt}
 
 -- q is at most a multiple of p

@@ -13,10 +13,10 @@ use Rattle.rational.proofs.SumLemmas.{sum_to-zeros, sum_to-only}
 use Rattle.linear_systems.specs.Tableau.{Tableau, left, Solves}
 use Rattle.linear_systems.specs.Lex.{IsLexPositive}
 use Rattle.linear_systems.specs.Rows.{unit_at, basic_solution, row, key, HasDistinctVariables}
-use Rattle.linear_systems.specs.Reached.{IsCombination, IsReached, IsVariableOf, in_row, in_column}
+use Rattle.linear_systems.specs.RowEquivalence.{IsCombination, IsRowEquivalent, IsVariableOf, in_row, in_column}
 use Rattle.linear_systems.proofs.RowLemmas.{unit_self, unit_other}
 use Rattle.linear_systems.specs.Points.{IsFeasible, IsExtremePoint, AreEqualAt}
-use Rattle.linear_systems.specs.Reach.{IsLexReached}
+use Rattle.linear_systems.specs.LexFeasible.{IsLexFeasible}
 
 -- ---- solutions, from the start to a reached tableau and back
 row_at_solution : (t : Tableau) (x : ℕ → ℚ) (i : ℕ) → left t x i ≡ t.right i → row t x (neg_ℚ one_ℚ) i ≡ zero_ℚ
@@ -29,12 +29,12 @@ combined : (m : ℕ) (t : Tableau) (F : (ℕ → ℚ) → ℚ → ℚ) (x : ℕ 
 combined m t F x hm c h =
     c.same x (neg_ℚ one_ℚ) ∙ sum_to-zeros m _ (λ q hq. times_zero (c.by q) _ (row_at_solution t x q (h q (omega arith))))
 
-pub solves_reached : (N : ℕ) (s t : Tableau) (x : ℕ → ℚ) → IsReached N s.rows s t → Solves s x → Solves t x
+pub solves_reached : (N : ℕ) (s t : Tableau) (x : ℕ → ℚ) → IsRowEquivalent N s.rows s t → Solves s x → Solves t x
 solves_reached N s t x p h i hi =
     let rows : t.rows ≡ s.rows = p.rows in
     solution_of_row t x i (combined s.rows s (λ x y. row t x y i) x (omega arith) (p.from i (omega arith)) h)
 
-pub solves_start : (N : ℕ) (s t : Tableau) (x : ℕ → ℚ) → IsReached N s.rows s t → Solves t x → Solves s x
+pub solves_start : (N : ℕ) (s t : Tableau) (x : ℕ → ℚ) → IsRowEquivalent N s.rows s t → Solves t x → Solves s x
 solves_start N s t x p h i hi =
     let rows : t.rows ≡ s.rows = p.rows in
     solution_of_row s x i (combined s.rows t (λ x y. row s x y i) x (omega arith) (p.back i hi) h)
@@ -70,7 +70,7 @@ first_nonnegative n f p = go p.place refl
     go zero e = le_of_lt zero_ℚ (f 0) (subst (λ k. zero_ℚ <ℚ f k) e p.above)
     go (suc k) e = subst (λ a. zero_ℚ ≤ℚ a) (sym (p.before 0 (omega arith))) (le_refl zero_ℚ)
 
-pub rights_nonnegative : (N : ℕ) (s t : Tableau) (i : ℕ) → IsLexReached N s t → i < s.rows → zero_ℚ ≤ℚ t.right i
+pub rights_nonnegative : (N : ℕ) (s t : Tableau) (i : ℕ) → IsLexFeasible N s t → i < s.rows → zero_ℚ ≤ℚ t.right i
 rights_nonnegative N s t i p hi = first_nonnegative s.rows (key s.basic t i) (p.keys i hi)
 
 -- ---- it is a point, and an extreme one
@@ -90,7 +90,7 @@ found_or (suc n) f v = elim (found_or n f v) [
 pub place : (t : Tableau) (v : ℕ) → Standing t v
 place t v = elim (found_or t.rows t.basic v) [ inr x ↦ in_basis x.0 x.1 x.2 | inl h ↦ elim (found_or t.width t.nonbasic v) [ inr x ↦ outside x.0 x.1 x.2 | inl g ↦ absent h g ] ]
 
-solution_nonnegative : (N : ℕ) (s t : Tableau) (v : ℕ) → IsLexReached N s t → zero_ℚ ≤ℚ basic_solution t v
+solution_nonnegative : (N : ℕ) (s t : Tableau) (v : ℕ) → IsLexFeasible N s t → zero_ℚ ≤ℚ basic_solution t v
 solution_nonnegative N s t v p = go (place t v)
   where
     rows : t.rows ≡ s.rows
@@ -101,16 +101,16 @@ solution_nonnegative N s t v p = go (place t v)
     go (outside j hj e) = subst (λ v. zero_ℚ ≤ℚ basic_solution t v) e (subst (λ a. zero_ℚ ≤ℚ a) (sym (solution_nonbasic t j p.reached.proper hj)) (le_refl zero_ℚ))
     go (absent h g) = subst (λ a. zero_ℚ ≤ℚ a) (sym (solution_elsewhere t v h)) (le_refl zero_ℚ)
 
-pub solution_point : (N : ℕ) (s t : Tableau) → IsLexReached N s t → IsFeasible s (basic_solution t)
+pub solution_point : (N : ℕ) (s t : Tableau) → IsLexFeasible N s t → IsFeasible s (basic_solution t)
 solution_point N s t p = record { solves = solves_start N s t (basic_solution t) p.reached (solution_solves t p.reached.proper); nonnegative = λ v h. solution_nonnegative N s t v p }
 
 -- a solution that is 0 at the nonbasic variables is the basic one
-alone_at : (N m : ℕ) (s t : Tableau) (x : ℕ → ℚ) (i : ℕ) → IsReached N m s t → Solves t x → ((j : ℕ) → j < t.width → x (t.nonbasic j) ≡ zero_ℚ) → i < t.rows → x (t.basic i) ≡ t.right i
+alone_at : (N m : ℕ) (s t : Tableau) (x : ℕ → ℚ) (i : ℕ) → IsRowEquivalent N m s t → Solves t x → ((j : ℕ) → j < t.width → x (t.nonbasic j) ≡ zero_ℚ) → i < t.rows → x (t.basic i) ≡ t.right i
 unfolding left
 alone_at N m s t x i p h z hi =
     sym (ring rational_ring (x (t.basic i) ∷ []) (A :+ num 0) A refl) ∙ ap (λ a. x (t.basic i) +ℚ a) (sym (sum_to-zeros t.width _ (λ j hj. times_zero (t.cell i j) _ (z j hj)))) ∙ h i hi
 
-pub solution_extreme : (N : ℕ) (s t : Tableau) → IsLexReached N s t → IsExtremePoint s (basic_solution t)
+pub solution_extreme : (N : ℕ) (s t : Tableau) → IsLexFeasible N s t → IsExtremePoint s (basic_solution t)
 solution_extreme N s t p = record { point = solution_point N s t p; alone = alone }
   where
     rows : t.rows ≡ s.rows

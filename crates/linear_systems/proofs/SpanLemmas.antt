@@ -8,7 +8,7 @@ use Rattle.rational.proofs.Ring.{ring, num, ◌:+◌, ◌:*◌, A, B, C, D}
 use Rattle.rational.proofs.SumLemmas.{sum_to-same, sum_to-add, sum_to-scale, sum_to-zeros, sum_to-only}
 use Rattle.rational.proofs.Rules.{times_zero}
 use Rattle.linear_systems.specs.Rows.{unit_at, row, HasDistinctVariables}
-use Rattle.linear_systems.specs.Reached.{IsCombination}
+use Rattle.linear_systems.specs.RowEquivalence.{IsCombination}
 use Rattle.linear_systems.proofs.RowLemmas.{unit_self, unit_other, coefficient_own, coefficient_basic, coefficient_row}
 
 pub spanned_same : (n : ℕ) (t : Tableau) (f g : (ℕ → ℚ) → ℚ → ℚ) → ((x : ℕ → ℚ) (y : ℚ) → f x y ≡ g x y) → IsCombination n t f → IsCombination n t g

@@ -7,14 +7,14 @@ use Rattle.linear_systems.specs.Lex.{IsLexPositive}
 use Rattle.linear_systems.specs.Rows.{key, IsLexicographicRow, Alike}
 use Rattle.std.proofs.lemmas.Bool.{cases_eq}
 use Rattle.rational.proofs.InverseLemmas.{ne_zero_of_pos, zero_lt_one}
-use Rattle.linear_systems.specs.Reached.{IsVariableOf, in_row, in_column}
+use Rattle.linear_systems.specs.RowEquivalence.{IsVariableOf, in_row, in_column}
 use Rattle.linear_systems.proofs.AgreementLemmas.{alike_sym}
 use Rattle.linear_systems.proofs.PivotLemmas.{eqb_same, eqb_apart}
 use Rattle.linear_systems.proofs.LexLemmas.{lex_same}
 use Rattle.linear_systems.proofs.LexRowLemmas.{keys_stay_alike}
-use Rattle.linear_systems.proofs.ReachedTableauLemmas.{reached_start, reached_pivot, reached_alike, stands_alike}
+use Rattle.linear_systems.proofs.RowEquivalenceLemmas.{reached_start, reached_pivot, reached_alike, stands_alike}
 use Rattle.linear_systems.proofs.RowLemmas.{key_alike, coefficient_own, coefficient_basic}
-use Rattle.linear_systems.specs.Reach.{IsFeasibleStart, IsLexReached}
+use Rattle.linear_systems.specs.LexFeasible.{IsFeasibleStart, IsLexFeasible}
 
 start_keys : (N : ℕ) (s : Tableau) (i : ℕ) → IsFeasibleStart N s → i < s.rows → IsLexPositive (suc s.rows) (key s.basic s i)
 start_keys N s i st hi = go (eq_or_lt_of_le zero_ℚ (s.right i) (st.right i hi))
@@ -38,15 +38,15 @@ variables_pivot t r c v hr hc (in_column j hj e) = elim (cases_eq j c) [
   | inr ne ↦ in_column j hj (sym (ap (λ b. cond b (t.basic r) (t.nonbasic j)) (eqb_apart j c ne)) ∙ e)
 ]
 
-pub start_reached : (N : ℕ) (s : Tableau) → IsFeasibleStart N s → IsLexReached N s s
+pub start_reached : (N : ℕ) (s : Tableau) → IsFeasibleStart N s → IsLexFeasible N s s
 start_reached N s st = record { reached = reached_start N s.rows s st.start; variables = λ v h. h; keys = λ i hi. start_keys N s i st hi }
 
-pub alike_reached : (N : ℕ) (s t u : Tableau) → IsFeasibleStart N s → Alike t u → IsLexReached N s t → IsLexReached N s u
+pub alike_reached : (N : ℕ) (s t u : Tableau) → IsFeasibleStart N s → Alike t u → IsLexFeasible N s t → IsLexFeasible N s u
 alike_reached N s t u st a p =
     let rows : t.rows ≡ s.rows = p.reached.rows in
     record { reached = reached_alike N s.rows s t u st.start.rated a p.reached; variables = λ v h. p.variables v (stands_alike u t v (alike_sym t u a) h); keys = λ i hi. lex_same (suc s.rows) (key s.basic t i) (key s.basic u i) (λ k hk. key_alike s.basic t u i k a (omega arith)) (p.keys i hi) }
 
-pub pivot_reached : (N : ℕ) (s t u : Tableau) (r c : ℕ) → IsFeasibleStart N s → IsLexReached N s t → c < s.width → IsLexicographicRow s.rows s.rows s.basic t c r → Alike (pivot t r c) u → IsLexReached N s u
+pub pivot_reached : (N : ℕ) (s t u : Tableau) (r c : ℕ) → IsFeasibleStart N s → IsLexFeasible N s t → c < s.width → IsLexicographicRow s.rows s.rows s.basic t c r → Alike (pivot t r c) u → IsLexFeasible N s u
 pivot_reached N s t u r c st p hc x a =
     let rows : t.rows ≡ s.rows = p.reached.rows in
     let width : t.width ≡ s.width = p.reached.width in

@@ -13,11 +13,11 @@ use Rattle.rational.proofs.SumLemmas.{sum_to-same, sum_to-add, sum_to-scale, sum
 use Rattle.linear_systems.specs.Tableau.{Tableau, left}
 use Rattle.linear_systems.specs.Lex.{IsLexLess}
 use Rattle.linear_systems.specs.Rows.{unit_at, coefficient, key, row}
-use Rattle.linear_systems.specs.Reached.{IsCombination, IsReached}
+use Rattle.linear_systems.specs.RowEquivalence.{IsCombination, IsRowEquivalent}
 use Rattle.linear_systems.proofs.LexLemmas.{lex_same, lex_scale}
 use Rattle.linear_systems.proofs.RowLemmas.{unit_self, unit_other, coefficient_own, coefficient_basic, coefficient_cell, coefficient_row, key_row, key_at, key_factor}
 use Rattle.linear_systems.proofs.SpanLemmas.{spanned_same, spanned_mix, spanned_trans, spanned_is}
-use Rattle.linear_systems.specs.Reach.{IsLexReached, IsBasic, IsNeighbour}
+use Rattle.linear_systems.specs.LexFeasible.{IsLexFeasible, IsBasic, IsNeighbour}
 
 -- the sum of the weighted values, less what the rows say of the weighted basic variables
 abbrev pub reduced : ℕ → (ℕ → ℚ) → Tableau → (ℕ → ℚ) → ℚ → ℚ
@@ -29,18 +29,18 @@ reduced_at N w t v h =
     ap₂ (λ a b. a -ℚ b) (sum_to-only N v _ h (λ u hu ne. times_zero (w u) _ (unit_other v u ne)) ∙ times_one (w v) _ (unit_self v)) (sum_to-same t.rows _ _ (λ i hi. ap (λ a. w (t.basic i) *ℚ a) (coefficient_row t i v)))
 
 -- which is 0 where the variable is basic
-pub reduced_basic : (N : ℕ) (w : ℕ → ℚ) (s t : Tableau) (k : ℕ) → IsReached N s.rows s t → k < t.rows → reduced N w t (unit_at (t.basic k)) zero_ℚ ≡ zero_ℚ
+pub reduced_basic : (N : ℕ) (w : ℕ → ℚ) (s t : Tableau) (k : ℕ) → IsRowEquivalent N s.rows s t → k < t.rows → reduced N w t (unit_at (t.basic k)) zero_ℚ ≡ zero_ℚ
 reduced_basic N w s t k p hk =
     let rows : t.rows ≡ s.rows = p.rows in
     reduced_at N w t (t.basic k) (p.basic_below k (omega arith))
     ∙ ap (λ a. w (t.basic k) -ℚ a) (sum_to-only t.rows k _ hk (λ i hi ne. times_zero (w (t.basic i)) _ (coefficient_basic t i k p.proper hi hk ne)) ∙ times_one (w (t.basic k)) _ (coefficient_own t k p.proper hk))
     ∙ ring rational_ring (w (t.basic k) ∷ []) (A :- A) (num 0) refl
 
-pub reduced_of : (N : ℕ) (w : ℕ → ℚ) (s u : Tableau) (v : ℕ) → IsReached N s.rows s u → IsBasic u v → reduced N w u (unit_at v) zero_ℚ ≡ zero_ℚ
+pub reduced_of : (N : ℕ) (w : ℕ → ℚ) (s u : Tableau) (v : ℕ) → IsRowEquivalent N s.rows s u → IsBasic u v → reduced N w u (unit_at v) zero_ℚ ≡ zero_ℚ
 reduced_of N w s u v p b = subst (λ v. reduced N w u (unit_at v) zero_ℚ ≡ zero_ℚ) b.here (reduced_basic N w s u b.row p b.within)
 
 -- of two reached tableaux, the difference is a combination of the rows of the first
-gap : (N : ℕ) (w : ℕ → ℚ) (s t u : Tableau) → IsReached N s.rows s t → IsReached N s.rows s u → IsCombination s.rows t (λ x y. reduced N w u x y -ℚ reduced N w t x y)
+gap : (N : ℕ) (w : ℕ → ℚ) (s t u : Tableau) → IsRowEquivalent N s.rows s t → IsRowEquivalent N s.rows s u → IsCombination s.rows t (λ x y. reduced N w u x y -ℚ reduced N w t x y)
 gap N w s t u p q =
     let own : IsCombination s.rows t (λ x y. sum_to t.rows (λ i. w (t.basic i) *ℚ row t x y i)) = subst (λ m. IsCombination m t (λ x y. sum_to t.rows (λ i. w (t.basic i) *ℚ row t x y i))) p.rows (record { by = λ i. w (t.basic i); same = λ x y. refl }) in
     let other : IsCombination s.rows u (λ x y. sum_to u.rows (λ i. w (u.basic i) *ℚ row u x y i)) = subst (λ m. IsCombination m u (λ x y. sum_to u.rows (λ i. w (u.basic i) *ℚ row u x y i))) q.rows (record { by = λ i. w (u.basic i); same = λ x y. refl }) in
@@ -48,7 +48,7 @@ gap N w s t u p q =
     (spanned_mix s.rows t (λ x y. sum_to t.rows (λ i. w (t.basic i) *ℚ row t x y i)) (λ x y. sum_to u.rows (λ i. w (u.basic i) *ℚ row u x y i)) (neg_ℚ one_ℚ) own (spanned_trans s.rows t s _ p.back (spanned_trans s.rows s u _ q.from other)))
 
 -- from a tableau to a neighbour it grows by a multiple of the row
-pub gap_is : (N : ℕ) (w : ℕ → ℚ) (s t u : Tableau) (r c : ℕ) (x : ℕ → ℚ) (y : ℚ) → IsReached N s.rows s t → IsReached N s.rows s u → r < s.rows → IsNeighbour t r c u → reduced N w u x y -ℚ reduced N w t x y ≡ reduced N w u (unit_at (t.basic r)) zero_ℚ *ℚ row t x y r
+pub gap_is : (N : ℕ) (w : ℕ → ℚ) (s t u : Tableau) (r c : ℕ) (x : ℕ → ℚ) (y : ℚ) → IsRowEquivalent N s.rows s t → IsRowEquivalent N s.rows s u → r < s.rows → IsNeighbour t r c u → reduced N w u x y -ℚ reduced N w t x y ≡ reduced N w u (unit_at (t.basic r)) zero_ℚ *ℚ row t x y r
 gap_is N w s t u r c x y p q hr near =
     let rows : t.rows ≡ s.rows = p.rows in
     let at : (k : ℕ) → k < s.rows → reduced N w u (unit_at (t.basic k)) zero_ℚ -ℚ reduced N w t (unit_at (t.basic k)) zero_ℚ ≡ reduced N w u (unit_at (t.basic k)) zero_ℚ = λ k hk. ap (λ a. reduced N w u (unit_at (t.basic k)) zero_ℚ -ℚ a) (reduced_basic N w s t k p (omega arith)) ∙ ring rational_ring (reduced N w u (unit_at (t.basic k)) zero_ℚ ∷ []) (A :- num 0) A refl in
@@ -61,7 +61,7 @@ abbrev pub reduced_key : ℕ → (ℕ → ℚ) → Tableau → Tableau → ℕ �
 reduced_key N w s t p = reduced N w t (key_at s.basic p) (key_factor p)
 
 -- it grows lexicographically where the column has a negative one
-pub improves : (N : ℕ) (w : ℕ → ℚ) (s t u : Tableau) (r c : ℕ) → IsLexReached N s t → IsLexReached N s u → r < s.rows → c < s.width → zero_ℚ <ℚ t.cell r c → IsNeighbour t r c u → reduced N w t (unit_at (t.nonbasic c)) zero_ℚ <ℚ zero_ℚ → IsLexLess (suc s.rows) (reduced_key N w s t) (reduced_key N w s u)
+pub improves : (N : ℕ) (w : ℕ → ℚ) (s t u : Tableau) (r c : ℕ) → IsLexFeasible N s t → IsLexFeasible N s u → r < s.rows → c < s.width → zero_ℚ <ℚ t.cell r c → IsNeighbour t r c u → reduced N w t (unit_at (t.nonbasic c)) zero_ℚ <ℚ zero_ℚ → IsLexLess (suc s.rows) (reduced_key N w s t) (reduced_key N w s u)
 improves N w s t u r c p q hr hc hpos near neg =
     let rows : t.rows ≡ s.rows = p.reached.rows in
     let width : t.width ≡ s.width = p.reached.width in
@@ -86,7 +86,7 @@ left_expand N t x i hb hn =
     ∙ ap₂ (λ a b. a +ℚ b) (pick N (t.basic i) x hb) (sum_to-exchange N t.width (λ v j. t.cell i j *ℚ (x v *ℚ unit_at v (t.nonbasic j))) ∙ sum_to-same t.width _ _ (λ j hj. sum_to-scale N (t.cell i j) (λ v. x v *ℚ unit_at v (t.nonbasic j)) ∙ ap (λ a. t.cell i j *ℚ a) (pick N (t.nonbasic j) x (hn j hj))))
 
 -- the sum over the variables of what is left at each, by a solution
-pub costs_sum : (N : ℕ) (w : ℕ → ℚ) (s t : Tableau) (p : ℕ → ℚ) → IsReached N s.rows s t → ((i : ℕ) → i < t.rows → left t p i ≡ t.right i) → sum_to N (λ v. p v *ℚ reduced N w t (unit_at v) zero_ℚ) ≡ sum_to N (λ v. w v *ℚ p v) -ℚ sum_to t.rows (λ i. w (t.basic i) *ℚ t.right i)
+pub costs_sum : (N : ℕ) (w : ℕ → ℚ) (s t : Tableau) (p : ℕ → ℚ) → IsRowEquivalent N s.rows s t → ((i : ℕ) → i < t.rows → left t p i ≡ t.right i) → sum_to N (λ v. p v *ℚ reduced N w t (unit_at v) zero_ℚ) ≡ sum_to N (λ v. w v *ℚ p v) -ℚ sum_to t.rows (λ i. w (t.basic i) *ℚ t.right i)
 costs_sum N w s t p q solves =
     let rows : t.rows ≡ s.rows = q.rows in
     let width : t.width ≡ s.width = q.width in

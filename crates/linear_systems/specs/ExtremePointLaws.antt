@@ -3,24 +3,25 @@ use Rattle.std.specs.Prelude.{ℕ, ◌<◌, ◌≡◌, List}
 use Rattle.rational.specs.Rational.{ℚ, zero_ℚ}
 use Rattle.linear_systems.specs.Tableau.{Tableau, pivot}
 use Rattle.linear_systems.specs.Rows.{basic_solution, IsLexicographicRow, Alike}
-use Rattle.linear_systems.specs.Reached.{IsVariableOf}
+use Rattle.linear_systems.specs.RowEquivalence.{IsVariableOf}
 use Rattle.linear_systems.specs.Points.{IsExtremePoint, AreEqualAt}
-use Rattle.linear_systems.specs.Reach.{IsFeasibleStart, IsLexReached, IsClosed}
+use Rattle.linear_systems.specs.LexFeasible.{IsFeasibleStart, IsLexFeasible, IsClosed}
 use Rattle.linear_systems.specs.Vertices.{MarkedPoint, AreVertices}
 
--- The start is reached, and so is what a pivot on a lexicographic row makes of a reached tableau.
-pub record LexicographicPivotsReach : Type 0 where
-  pub start : (N : ℕ) (s : Tableau) → IsFeasibleStart N s → IsLexReached N s s
-  pub alike : (N : ℕ) (s t u : Tableau) → IsFeasibleStart N s → Alike t u → IsLexReached N s t
-      → IsLexReached N s u
-  pub pivot : (N : ℕ) (s t u : Tableau) (r c : ℕ) → IsFeasibleStart N s → IsLexReached N s t
+-- The start is lexicographically feasible, and so is what a pivot on a lexicographic row makes of such
+-- a tableau.
+pub record LexicographicPivotsKeepFeasibility : Type 0 where
+  pub start : (N : ℕ) (s : Tableau) → IsFeasibleStart N s → IsLexFeasible N s s
+  pub alike : (N : ℕ) (s t u : Tableau) → IsFeasibleStart N s → Alike t u → IsLexFeasible N s t
+      → IsLexFeasible N s u
+  pub pivot : (N : ℕ) (s t u : Tableau) (r c : ℕ) → IsFeasibleStart N s → IsLexFeasible N s t
       → c < s.width → IsLexicographicRow s.rows s.rows s.basic t c r → Alike (pivot t r c) u
-      → IsLexReached N s u
+      → IsLexFeasible N s u
 
--- The basic solution of a reached tableau is an extreme point.
+-- The basic solution of a lexicographically feasible tableau is an extreme point.
 abbrev pub BasicSolutionsAreExtreme : Type 0
 BasicSolutionsAreExtreme =
-    (N : ℕ) (s t : Tableau) → IsFeasibleStart N s → IsLexReached N s t
+    (N : ℕ) (s t : Tableau) → IsFeasibleStart N s → IsLexFeasible N s t
     → IsExtremePoint s (basic_solution t)
 
 -- one of these tableaux has p for its basic solution
@@ -29,12 +30,12 @@ pub record HasPoint (s : Tableau) (K : ℕ) (ts : ℕ → Tableau) (p : ℕ → 
   pub within : place < K
   pub same : AreEqualAt s p (basic_solution (ts place))
 
--- Among reached tableaux that are closed under lexicographic pivots, each extreme point is a basic
--- solution, degenerate ones too.
+-- Among lexicographically feasible tableaux that are closed under lexicographic pivots, each extreme
+-- point is a basic solution, degenerate ones too.
 abbrev pub ClosedSetsCover : Type 0
 ClosedSetsCover =
     (N : ℕ) (s : Tableau) (K : ℕ) (ts : ℕ → Tableau) (p : ℕ → ℚ) → IsFeasibleStart N s → 0 < K
-    → ((k : ℕ) → k < K → IsLexReached N s (ts k)) → IsClosed s K ts → IsExtremePoint s p
+    → ((k : ℕ) → k < K → IsLexFeasible N s (ts k)) → IsClosed s K ts → IsExtremePoint s p
     → HasPoint s K ts p
 
 -- Two extreme points are equal where the second is 0 wherever the first is.

@@ -3,7 +3,7 @@
 use Rattle.std.specs.Prelude.{ℕ, ◌<◌, ◌≡◌, ◌≢◌}
 use Rattle.rational.specs.Rational.{ℚ, ◌+ℚ◌, zero_ℚ, ◌≤ℚ◌}
 use Rattle.linear_systems.specs.Tableau.{Tableau, Solves}
-use Rattle.linear_systems.specs.Reached.{IsVariableOf}
+use Rattle.linear_systems.specs.RowEquivalence.{IsVariableOf}
 
 -- a feasible point: x solves s, and no variable of s is negative in it
 pub record IsFeasible (s : Tableau) (x : ℕ → ℚ) : Type 0 where

@@ -22,7 +22,8 @@ use Rattle.ne_checker.specs.Lines.{lines_answer}
 use Rattle.verdicts.specs.TableChecks.{IsTableVerdict}
 use Rattle.verdicts.specs.TableLaws.{TableVerdictsFindEquilibria}
 use Rattle.ne_checker.specs.Texts.{table_told, tree_told}
-use Rattle.verdicts.specs.TreeVerdictLaws.{AllRecall, TreeVerdictsFindEquilibria}
+use Rattle.game_theory.specs.Recall.{AllRecall}
+use Rattle.verdicts.specs.TreeVerdictLaws.{TreeVerdictsFindEquilibria}
 use Rattle.verdicts.specs.TreeVerdicts.{IsTreeVerdict}
 use Rattle.ne_checker.specs.declared.stops.CheckStop.{CheckStop}
 use Rattle.verdicts.specs.declared.tables.TableVerdict.{TableVerdict}
@@ -67,7 +68,7 @@ module _ (law : TableVerdictsFindEquilibria) where
   table_checks-tell tested table lines text h = checks-tell (table_line table) (TellsOfTableLine table) (table_line-tells tested table) lines text h
 
 -- ---- trees
-module _ (law : TreeVerdictsFindEquilibria) (tree : GameTree) (is : IsGameTree tree) (recall : AllRecall tree) where
+module _ (law : TreeVerdictsFindEquilibria) (tree : GameTree) (is : IsGameTree tree) (recall : AllRecall (game_of_tree tree)) where
   behaviour-tells : (b : Behaviour) (number : ℕ) (verdict : TreeVerdict) (actions text : List ℕ) → is_valid_behaviour (game_of_tree tree) b → IsTreeVerdict (game_of_tree tree) b verdict actions → tree_told number (verdict, actions) (Ok text) → TellsOfBehaviour (game_of_tree tree) b text
   behaviour-tells b number tree_verdicts.Equilibrium actions text valid h told = inl (law.equilibrium tree b actions is recall valid h, cc told)
   behaviour-tells b number (tree_verdicts.Better player now best) actions text valid h told = inr (player, now, best, actions, law.better tree b player now best actions is recall h, cc told)

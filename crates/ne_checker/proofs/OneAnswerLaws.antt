@@ -13,7 +13,8 @@ use Rattle.game_core.specs.Limits.{limited_text}
 use Rattle.game_core.proofs.LimitLemmas.{limited_text-single}
 use Rattle.verdicts.specs.TableChecks.{table_verdict}
 use Rattle.verdicts.specs.TreeVerdicts.{tree_verdict}
-use Rattle.verdicts.specs.TreeVerdictLaws.{AllRecall, TreeVerdictsAreSingle}
+use Rattle.game_theory.specs.Recall.{AllRecall}
+use Rattle.verdicts.specs.TreeVerdictLaws.{TreeVerdictsAreSingle}
 use Rattle.verdicts.specs.declared.tables.TableVerdict.{TableVerdict}
 use Rattle.verdicts.specs.declared.tables.TableVerdict.TheVariants as table_verdicts
 use Rattle.verdicts.specs.declared.trees.TreeVerdict.{TreeVerdict}
@@ -71,7 +72,7 @@ tree_told_once number (tree_verdicts.Equilibrium, reply) = only-single equilibri
 tree_told_once number (tree_verdicts.Better player payoff best, reply) = only-single (better_text player payoff best reply)
 tree_told_once number (tree_verdicts.Range step, reply) = refused-single (stops.Range number step)
 
-tree_judged_once : TreeVerdictsAreSingle → (number : ℕ) (tree : GameTree) (entries : List ℚ) → IsGameTree tree → AllRecall tree → IsSingle (tree_judged number tree entries)
+tree_judged_once : TreeVerdictsAreSingle → (number : ℕ) (tree : GameTree) (entries : List ℚ) → IsGameTree tree → AllRecall (game_of_tree tree) → IsSingle (tree_judged number tree entries)
 tree_judged_once once number tree entries is recall =
     bind-single (such_that (λ v. tree_verdict tree entries v.0 v.1)) (tree_told number) (such_that-single (λ v. tree_verdict tree entries v.0 v.1) same) (λ verdict h. tree_told_once number verdict)
   where

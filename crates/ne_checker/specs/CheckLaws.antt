@@ -17,7 +17,8 @@ use Rattle.ne_printer.specs.TextLines.{lines_of}
 use Rattle.ne_checker.specs.LineChecks.{table_check, tree_check}
 use Rattle.verdicts.specs.TableLaws.{ShowsBetterStrategy}
 use Rattle.ne_checker.specs.Texts.{better_text, equilibrium_text}
-use Rattle.verdicts.specs.TreeVerdictLaws.{AllRecall, ShowsBetterReply}
+use Rattle.game_theory.specs.Recall.{AllRecall}
+use Rattle.verdicts.specs.TreeVerdictLaws.{ShowsBetterReply}
 
 -- the text says of a mixed profile that it is an equilibrium, and it is one; or it names the first
 -- player who has a better strategy, and the first that pays the most
@@ -66,6 +67,6 @@ TableChecksTell =
 -- .. and each text of the check of a tree in which all players recall.
 abbrev pub TreeChecksTell : Type 0
 TreeChecksTell =
-    (tree : GameTree) (lines text : List ℕ) → IsGameTree tree → AllRecall tree
+    (tree : GameTree) (lines text : List ℕ) → IsGameTree tree → AllRecall (game_of_tree tree)
     → tree_check tree lines (Ok text)
     → TellsOfLines (TellsOfTreeLine tree) (lines_of lines) text

@@ -14,7 +14,7 @@ use Rattle.ne_printer.specs.declared.reading.LineStop.{LineStop}
 use Rattle.ne_printer.specs.declared.reading.LineStop.TheVariants as line_stops
 use Rattle.verdicts.specs.TableChecks.{table_verdict}
 use Rattle.verdicts.specs.TreeVerdicts.{tree_verdict}
-use Rattle.verdicts.specs.TreeVerdictLaws.{AllRecall}
+use Rattle.game_theory.specs.Recall.{AllRecall}
 use Rattle.ne_checker.specs.Lines.{lines_answer}
 use Rattle.ne_printer.specs.TextLines.{lines_of}
 use Rattle.game_theory.specs.OwnSets.{action_counts}
@@ -91,5 +91,5 @@ TableChecksAreSingle = (table : GameTable) (text : List ℕ) → IsSingle (table
 -- a tree in which all players recall and a text have at most one answer
 abbrev pub TreeChecksAreSingle : Type 0
 TreeChecksAreSingle =
-    (tree : GameTree) (text : List ℕ) → IsGameTree tree → AllRecall tree
+    (tree : GameTree) (text : List ℕ) → IsGameTree tree → AllRecall (game_of_tree tree)
     → IsSingle (tree_check tree text)

@@ -6,7 +6,7 @@ ghost use Rattle.ne_checker.specs.Lines.{IsEnoughOf};
 ghost use Rattle.ne_checker.specs.declared.stops.CheckStop.TheVariants as stops;
 
 use crate::stops::CheckStop;
-use frac128::Memory;
+use answers::Memory;
 use game_core::{MOST_TEXT, too_long_text};
 
 /// Adds to a text, where that is not above the limit yet.

@@ -2,8 +2,9 @@
 ghost use Rattle.std.specs.Prelude.{◌≡◌};
 ghost use Rattle.ne_checker.specs.LineChecks.{faulty, unread};
 
+use answers::Memory;
 use behaviour_profile::ProfileFault;
-use frac128::{Memory, Unfit};
+use frac128::Unfit;
 use game_core::TooLarge;
 use ne_printer::LineStop;
 

@@ -4,7 +4,8 @@ ghost use Rattle.std.specs.List.{flat_map};
 ghost use Rattle.verdicts.specs.TreeScratches.{reply_of};
 ghost use Rattle.ne_checker.specs.Texts.{better_start, better_text, choice_text, equilibrium_text};
 
-use frac128::{Frac, Memory};
+use answers::Memory;
+use frac128::Frac;
 use ne_printer::fraction_text;
 use std::alloc::Global;
 use verdicts::Scratch;

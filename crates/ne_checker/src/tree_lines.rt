@@ -11,7 +11,6 @@ use crate::kept_text::{keep, within_limit};
 use crate::stops::{CheckStop, faulty, unread};
 use crate::texts::{better_reply, equilibrium};
 use behaviour_profile::{Behaviour, profiles_are_single, tested_entries_are_behaviours};
-use game_core::tree_parts::stands_for_game_tree;
 use game_core::{Tree, trees_are_game_trees};
 use ne_printer::{first_line, read_line};
 use perfect_recall::Recall;
@@ -35,7 +34,7 @@ fn tree_line(
     ensures text { Gives stops.Memory (tree_line tree.now number line.now)
         (map_ok result (λ text. text.items)) }
 {
-    stands_for_game_tree(tree);
+    tree.stands_for_game_tree();
     tested_entries_are_behaviours();
     let entries = match read_line(alloc, line) {
         Ok(entries) => entries,

@@ -4,16 +4,11 @@ use Rattle.std.specs.Str.{IsUtf8}
 use Rattle.std.specs.Bool.{Decides}
 use Rattle.std.specs.Char.{IsAsciiDigit, is_ascii_digit}
 use Rattle.std.specs.List.{AllByRecursion, list_all}
-use Rattle.std.specs.Str.Parse.{AllDigits, IsNumeral, digits_value}
+use Rattle.std.specs.Str.Parse.{AllDigits, IsNumeral}
 use Rattle.std.proofs.lemmas.List.Elements.{All-from_recursion}
 use Rattle.std.proofs.lemmas.Fmt.{IsAscii-from_digits}
 use Rattle.std.proofs.lemmas.Str.{IsUtf8-from_ascii}
-use Rattle.std.proofs.lemmas.Str.Parse.{IsNumeralModel, numerals_by_value}
-use Rattle.game_text.proofs.DigitLemmas.{passes_digits, digits_pass}
-
--- digits are those of the standard library
-numerals : IsNumeralModel (AllByRecursion IsAsciiDigit) (digits_value 10)
-numerals = numerals_by_value (AllByRecursion IsAsciiDigit) (search rules)
+use Rattle.game_text.proofs.DigitLemmas.{numerals, passes_digits, digits_pass}
 
 -- whether all are digits
 pub digits_tested : (text : List ℕ) → Decides (list_all is_ascii_digit text) (AllDigits 10 text)

@@ -16,7 +16,8 @@ ghost use Rattle.std.specs.Prelude.{◌≡◌, [], ◌∷◌, ◌++◌, string_b
 ghost use Rattle.game_theory.specs.Lines.{line_text, number_text};
 ghost use Rattle.ne_printer.specs.Entries.{entry_text, entries_text, numbers_line, line_start, BeginsWith, IsOneDigit};
 
-use frac128::{Frac, Memory};
+use answers::Memory;
+use frac128::Frac;
 pub use reading::{LineStop, first_line, lines_are_single, lines_read_back, read_line};
 use std::alloc::Global;
 

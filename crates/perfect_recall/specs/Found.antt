@@ -3,7 +3,7 @@ use Rattle.std.specs.Prelude.{ℕ, ◌<◌, ◌≡◌, ◌≢◌, List, map, sli
 use Rattle.std.specs.List.{range_with_len}
 use Rattle.answers.specs.Answers.{Answer}
 use Rattle.game_theory.specs.Trees.{Tree}
-use Rattle.game_theory.specs.Recall.{own_history, HasPerfectRecall, HaveOneHistory}
+use Rattle.game_theory.specs.Recall.{AllRecall, own_history, HasPerfectRecall, HaveOneHistory}
 use Rattle.sequence_forms.specs.Sequences.{last_edge, history_before}
 use Rattle.game_core.specs.Tree.{GameTree, InformationSet}
 use Rattle.game_core.specs.TreeGame.{game_of_tree}
@@ -19,7 +19,7 @@ edge_before t s (Some i) = last_edge (history_before t i s)
 
 -- each player has perfect recall, and these are the edges before the sets
 pub record IsRecallOf (t : Tree) (before : List (Option (ℕ × ℕ))) : Type 0 where
-  pub all_recall : (i : ℕ) → i < t.players → HasPerfectRecall t i
+  pub all_recall : AllRecall t
   pub before_is : before ≡ map (λ s. edge_before t s (t.owner s)) (range_with_len 0 t.sets)
 
 -- ---- a player who forgets

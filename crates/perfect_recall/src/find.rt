@@ -12,7 +12,6 @@ ghost use Rattle.perfect_recall.specs.Found.{EarlierHaveOneHistory, ForgetsAt, I
 use crate::paths::last_edges;
 use crate::recall::{Forgets, Recall, RecallStop};
 use answers::Memory;
-use game_core::tree_parts::{owner, stands_for_game_tree};
 use game_core::{Tree, trees_are_game_trees};
 use std::alloc::Global;
 
@@ -50,7 +49,7 @@ fn forgets_at(
     ensures forgets { MatchOption result (HaveOneHistory (game_of_tree tree.now) player number)
         (ForgetsAt tree.now) }
 {
-    stands_for_game_tree(tree);
+    tree.stands_for_game_tree();
     let set = &tree.sets()[number];
     let members = set.members();
     let Some(second_node) = other_member(members, edges) else {
@@ -79,7 +78,7 @@ fn with_set(
     ensures { MatchOption result (NobodyForgetsBelow tree.now (number + 1))
         (IsForgettingBelow tree.now (number + 1)) }
 {
-    let Some(player) = owner(tree, number) else {
+    let Some(player) = tree.owner(number) else {
         return found;
     };
     if let Some(forgets) = found {

@@ -1,5 +1,6 @@
 -- One action at each player's set: that of a profile of reduced strategies, or one from a list.
-use Rattle.std.specs.Prelude.{ℕ, ◌<◌, ◌≡◌, List, length, map, slice_index, Some}
+use Rattle.std.specs.Prelude.{ℕ, ◌≡◌, List, length, map, slice_index}
+use Rattle.game_theory.specs.Behaviour.{IsWholeChoice}
 use Rattle.game_theory.specs.Profiles.{IsProfile}
 use Rattle.game_theory.specs.Trees.{Tree}
 use Rattle.reduced_strategies.specs.Places.{ArePlaces}
@@ -16,7 +17,7 @@ pub record AreReduced (t : Tree) (places : List ℕ) (strategies : List (List (L
 -- an entry for each set, and at each player's set one of its actions
 pub record AreActions (t : Tree) (actions : List ℕ) : Type 0 where
   pub one_for_each : length actions ≡ t.sets
-  pub are_actions : (s i : ℕ) → s < t.sets → t.owner s ≡ Some i → slice_index actions s < t.actions s
+  pub are_actions : IsWholeChoice t (slice_index actions)
 
 -- the choices are a tree's
 abbrev pub AreChoices : Tree → Choices → Type 0

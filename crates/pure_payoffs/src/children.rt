@@ -6,7 +6,6 @@ ghost use Rattle.game_theory.specs.Children.{AreChildren};
 
 use answers::Memory;
 use game_core::Tree;
-use game_core::tree_parts::{action_count, branch, parent, set, stands_for_game_tree};
 use std::alloc::Global;
 
 // How many actions a node's set has: none at an end.
@@ -14,9 +13,9 @@ fn actions_at(tree: &Tree, node: usize) -> usize
     requires { node < length tree.now.nodes }
     ensures { let t = game_of_tree tree.now in result ≡ actions_at t (t.set node) }
 {
-    stands_for_game_tree(tree);
-    match set(tree, node) {
-        Some(set) => action_count(tree, set as usize),
+    tree.stands_for_game_tree();
+    match tree.set_at(node) {
+        Some(set) => tree.action_count(set as usize),
         None => 0,
     }
 }
@@ -40,10 +39,10 @@ pub fn children_of_all(alloc: Global, tree: &Tree) -> Result<Vec<Vec<u32>>, Memo
     ensures as_many { IfOk result
         (λ lists. HaveAsMany (game_of_tree tree.now) (map (λ v. v.items) lists.items)) }
 {
-    stands_for_game_tree(tree);
+    tree.stands_for_game_tree();
     let mut lists = rooms(alloc, tree)?;
     for node in 1..tree.nodes().len() {
-        lists[parent(tree, node)][branch(tree, node) as usize] = node as u32;
+        lists[tree.parent(node)][tree.branch(node) as usize] = node as u32;
     }
     Ok(lists)
 }

@@ -9,7 +9,6 @@ use crate::shortcuts::{Entries, Shortcuts};
 use crate::stop::{PayoffStop, ValueStop};
 use frac128::{Frac, Unfit};
 use game_core::Tree;
-use game_core::tree_parts::{action_count, owner, pays, probability, set, stands_for_game_tree};
 
 /// One action at each player's set of a tree.
 #[derive(Clone, Copy, Debug)]
@@ -81,7 +80,7 @@ impl<'a> Play<'a> {
         ensures stop { Gives stops.Memory
             (payoffs_fit (game_of self.now) (choice_of self.now)) result }
     {
-        stands_for_game_tree(self.tree);
+        self.tree.stands_for_game_tree();
         shortcuts.entries.forget();
         self.push_values(&mut shortcuts.entries, 0, payoffs)
     }
@@ -110,7 +109,7 @@ impl<'a> Play<'a> {
         ensures stop { Gives value_stops.Memory
             (all_values_fit (game_of self.now) (choice_of self.now) nodes.now) result }
     {
-        stands_for_game_tree(self.tree);
+        self.tree.stands_for_game_tree();
         shortcuts.entries.forget();
         self.push_each(&mut shortcuts.entries, nodes, values)
     }
@@ -202,8 +201,8 @@ impl<'a> Play<'a> {
             let choice = choice_of self.now in
             StepsGive (steps_at t choice player node) (value t (pure choice) player node) result }
     {
-        let pays = pays(self.tree, node as usize, player as usize);
-        match set(self.tree, node as usize) {
+        let pays = self.tree.pays(node as usize, player as usize);
+        match self.tree.set_at(node as usize) {
             Some(set) => pays.add(self.value_after(entries, node, set, player)?),
             None => Ok(pays),
         }
@@ -230,7 +229,7 @@ impl<'a> Play<'a> {
             (steps_after t choice player (steps_at t choice player) node set (t.owner set))
             (value_after t choice player node set (t.owner set)) result }
     {
-        match owner(self.tree, set as usize) {
+        match self.tree.owner(set as usize) {
             Some(owner) => {
                 let action = self.action_at(owner, set);
                 self.value(entries, self.children[node as usize][action], player)
@@ -261,8 +260,8 @@ impl<'a> Play<'a> {
     {
         let children = &self.children[node as usize];
         let mut sum = Frac::zero();
-        for action in 0..action_count(self.tree, set as usize) {
-            let prob = probability(self.tree, set as usize, action);
+        for action in 0..self.tree.action_count(set as usize) {
+            let prob = self.tree.probability(set as usize, action);
             sum = self.with_branch(entries, sum, prob, children[action], player)?;
         }
         Ok(sum)

@@ -7,7 +7,6 @@ ghost use Rattle.pure_payoffs.specs.Settled.{AreWithoutPlayers, AreSettledNodes,
 
 use answers::Memory;
 use frac128::Frac;
-use game_core::tree_parts::{parent, set, stands_for_game_tree};
 use game_core::{Kind, MOST_PAYOFFS, Tree};
 use std::alloc::Global;
 
@@ -35,11 +34,11 @@ fn nodes_of_chance(alloc: Global, tree: &Tree) -> Result<Vec<bool>, Memory>
 fn settled_nodes(alloc: Global, tree: &Tree) -> Result<Vec<bool>, Memory>
     ensures { IfOk result (λ idle. AreSettledNodes (game_of_tree tree.now) idle.items) }
 {
-    stands_for_game_tree(tree);
+    tree.stands_for_game_tree();
     let mut idle = nodes_of_chance(alloc, tree)?;
     for node in (1..tree.nodes().len()).rev() {
         if !idle[node] {
-            idle[parent(tree, node)] = false;
+            idle[tree.parent(node)] = false;
         }
     }
     Ok(idle)
@@ -51,8 +50,8 @@ fn is_topmost(tree: &Tree, idle: &[bool], node: usize) -> bool
     requires idle { node < length idle.now }
     ensures { IsTrue result → slice_index_or idle.now node false ≡ true }
 {
-    let parent = parent(tree, node);
-    idle[node] && set(tree, node).is_some() && matches!(idle.get(parent), Some(false))
+    let parent = tree.parent(node);
+    idle[node] && tree.set_at(node).is_some() && matches!(idle.get(parent), Some(false))
 }
 
 // A place for each of so many players, all free.

@@ -1,8 +1,9 @@
-// Why what choices pay was not computed.
+// Why what choices or behaviour pay was not computed.
+use answers::Memory;
 use frac128::Unfit;
 use std::alloc::AllocFailed;
 
-/// Why what choices pay was not computed.
+/// Why what choices or behaviour pay each player was not computed.
 #[derive(Clone, Copy, Debug, PartialEq, Eq)]
 pub enum PayoffStop {
     /// A step of a player's payoff does not fit: the first, players in order.
@@ -30,6 +31,17 @@ pub enum ValueStop {
     },
     /// Memory ran out.
     Memory,
+}
+
+impl From<Memory> for PayoffStop {
+    ghost use Rattle.std.specs.Prelude.{◌≡◌};
+    ghost use Rattle.pure_payoffs.specs.declared.stop.PayoffStop.TheVariants as stops;
+
+    ghost from_gives = { λ _ e. e ≡ stops.Memory };
+
+    fn from(_memory: Memory) -> PayoffStop {
+        PayoffStop::Memory
+    }
 }
 
 impl<T: Drop> From<AllocFailed<T>> for PayoffStop {

@@ -65,7 +65,7 @@ fn push_cells(
 
 /// What each profile pays each player, profiles in file order. `places` has each set's place among its owner's
 /// own sets, and `counts` how many strategies each player has.
-pub fn cells(
+pub(crate) fn cells(
     alloc: Global,
     tree: &Tree,
     places: &[u32],

@@ -32,7 +32,7 @@ fn too_many_choices() -> ReduceStop
 
 /// How many reduced strategies each player has, where the form has no more payoffs than it may. Nothing is
 /// built, and counting stops where it is known to have more.
-pub fn count_all(alloc: Global, decisions: &Decisions) -> Result<Vec<usize>, ReduceStop>
+pub(crate) fn count_all(alloc: Global, decisions: &Decisions) -> Result<Vec<usize>, ReduceStop>
     ensures counted { IfOk result (λ counts. AreCounted (game_of_tree decisions.now) counts.items) }
     ensures few { IfOk result
         (λ counts. length decisions.now.players * profile_count counts.items ≤ most_payoffs) }
@@ -59,7 +59,7 @@ pub fn count_all(alloc: Global, decisions: &Decisions) -> Result<Vec<usize>, Red
 }
 
 /// That the form has no more choices than it may, where the players have so many strategies.
-pub fn check_choices(tree: &Tree, counts: &[usize]) -> Result<(), ReduceStop>
+pub(crate) fn check_choices(tree: &Tree, counts: &[usize]) -> Result<(), ReduceStop>
     requires counted { AreCounted (game_of_tree tree.now) counts.now }
     requires few { length tree.now.players * profile_count counts.now ≤ most_payoffs }
     ensures few { OnOk result (choices_of (game_of_tree tree.now) counts.now ≤ most_choices) }

@@ -4,7 +4,7 @@ ghost use Rattle.std.specs.List.{flat_map};
 ghost use Rattle.reduced_form.specs.ReducedForm.{action_text, strategy_name};
 
 use crate::strategies::Strategies;
-use frac128::Memory;
+use answers::Memory;
 use game_core::Name;
 use std::alloc::Global;
 
@@ -57,7 +57,7 @@ fn names_of_one(alloc: Global, strategies: &[Vec<u32>]) -> Result<Vec<Name>, Mem
 }
 
 /// The names of all players' strategies.
-pub fn names_of_all(alloc: Global, strategies: &Strategies) -> Result<Vec<Vec<Name>>, Memory>
+pub(crate) fn names_of_all(alloc: Global, strategies: &Strategies) -> Result<Vec<Vec<Name>>, Memory>
     ensures { IfOk result (λ names. map (λ v. v.items) names.items
         ≡ map (map strategy_name) strategies.now) }
 {

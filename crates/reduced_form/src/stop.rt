@@ -1,5 +1,6 @@
 // Why a tree was not reduced.
-use frac128::{Memory, Unfit};
+use answers::Memory;
+use frac128::Unfit;
 use game_core::TooLarge;
 use std::alloc::{AllocError, AllocFailed};
 

@@ -58,10 +58,10 @@ pays-cell t strategies profile i f = ap (λ x. payoff t (pure (completed t strat
 
 -- first actions are valid behaviour
 completed-valid : (t : Tree) (strategies : List (List (List ℕ))) (profile : List ℕ) → IsTree t → AreStrategies t strategies → IsProfile (map length strategies) profile → IsValid t (pure (completed t strategies profile))
-completed-valid t strategies profile w a f =
+completed-valid t strategies profile w a f s i l o =
     record {
-      not_negative = λ s i n l o m. sure-not_negative (completed t strategies profile s) n;
-      sum_is_one = λ s i l o. sum_to-sure (t.actions s) (completed t strategies profile s) (first_actions-complete t strategies profile w a f s i l o).0;
+      not_negative = λ n m. sure-not_negative (completed t strategies profile s) n;
+      sum_is_one = sum_to-sure (t.actions s) (completed t strategies profile s) (first_actions-complete t strategies profile w a f s i l o).0;
     }
 
 -- ---- one player's strategy exchanged

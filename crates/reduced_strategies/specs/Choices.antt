@@ -5,8 +5,8 @@ use Rattle.lists.specs.Orders.{AreAscending}
 use Rattle.game_theory.specs.Trees.{Tree}
 use Rattle.game_theory.specs.Recall.{own_history}
 
--- A choice list gives each own set in order an action, counted from 1, or 0, which is written `*`, for none. This is what a list
--- gives a set, where the list is of these sets; to any other set it gives none.
+-- What a list of numbers gives a set of a list of sets, and 0 for any other set. A choice list of a player gives so each own set in
+-- order an action, counted from 1, or 0, which is written `*`, for none.
 abbrev pub choice_at : List ℕ → List ℕ → ℕ → ℕ
 choice_at (set ∷ sets) (choice ∷ choices) s = if set == s then choice else choice_at sets choices s
 choice_at _ _ s = 0

@@ -113,7 +113,7 @@ fn what_text(what: What) -> &'static str
 }
 
 /// The line of a fault of the tokens.
-pub fn text_line(alloc: Global, fault: TextFault) -> Result<String, Memory>
+pub(crate) fn text_line(alloc: Global, fault: TextFault) -> Result<String, Memory>
     ensures { IfOk result (λ line. string_bytes line ≡ refusal_line (refusal.Text fault)) }
 {
     let at = fault.at;
@@ -122,7 +122,7 @@ pub fn text_line(alloc: Global, fault: TextFault) -> Result<String, Memory>
 }
 
 /// The line of a fault of a table's file.
-pub fn nfg_line(alloc: Global, fault: NfgFault) -> Result<String, Memory>
+pub(crate) fn nfg_line(alloc: Global, fault: NfgFault) -> Result<String, Memory>
     ensures { IfOk result (λ line. string_bytes line ≡ refusal_line (refusal.Nfg fault)) }
 {
     let at = fault.at;
@@ -131,7 +131,7 @@ pub fn nfg_line(alloc: Global, fault: NfgFault) -> Result<String, Memory>
 }
 
 /// The line of a fault of a tree's file.
-pub fn efg_line(alloc: Global, fault: EfgFault) -> Result<String, Memory>
+pub(crate) fn efg_line(alloc: Global, fault: EfgFault) -> Result<String, Memory>
     ensures { IfOk result (λ line. string_bytes line ≡ refusal_line (refusal.Efg fault)) }
 {
     let at = fault.at;
@@ -140,7 +140,7 @@ pub fn efg_line(alloc: Global, fault: EfgFault) -> Result<String, Memory>
 }
 
 /// The line of a limit that is passed.
-pub fn limit_line(alloc: Global, passed: TooLarge) -> Result<String, Memory>
+pub(crate) fn limit_line(alloc: Global, passed: TooLarge) -> Result<String, Memory>
     ensures { IfOk result (λ line.
         string_bytes line
         ≡ refusal_line (refusal.TooLarge passed)) }
@@ -152,14 +152,14 @@ pub fn limit_line(alloc: Global, passed: TooLarge) -> Result<String, Memory>
 }
 
 /// The line of a game that has another number of players than two.
-pub fn players_line(alloc: Global, count: u32) -> Result<String, Memory>
+pub(crate) fn players_line(alloc: Global, count: u32) -> Result<String, Memory>
     ensures { IfOk result (λ line. string_bytes line ≡ refusal_line (refusal.NotTwoPlayers count)) }
 {
     Ok(format!(in alloc; "gambit: {count} players, not two\n")?)
 }
 
 /// The line of a player who forgets, with the set and its first two nodes that differ.
-pub fn forgets_line(alloc: Global, forgets: Forgets) -> Result<String, Memory>
+pub(crate) fn forgets_line(alloc: Global, forgets: Forgets) -> Result<String, Memory>
     ensures { IfOk result (λ line. string_bytes line ≡ refusal_line (refusal.Forgets forgets)) }
 {
     let number = forgets.player as u64 + 1;
@@ -172,7 +172,7 @@ pub fn forgets_line(alloc: Global, forgets: Forgets) -> Result<String, Memory>
 }
 
 /// The line of a game whose payoffs have no constant sum, with two places and their sums.
-pub fn sums_line(alloc: Global, sums: NotConstant) -> Result<String, Memory>
+pub(crate) fn sums_line(alloc: Global, sums: NotConstant) -> Result<String, Memory>
     ensures { IfOk result (λ line. string_bytes line ≡ refusal_line (refusal.NotConstant sums)) }
 {
     let one = sums.first as u64 + 1;
@@ -328,28 +328,28 @@ fn site_text(alloc: Global, site: &Site) -> Result<String, Memory>
 }
 
 /// The line of a line that is not a profile; lines count from 1.
-pub fn profile_line(alloc: Global, number: u64) -> Result<String, Memory>
+pub(crate) fn profile_line(alloc: Global, number: u64) -> Result<String, Memory>
     ensures { IfOk result (λ line. string_bytes line ≡ refusal_line (refusal.BadLine number)) }
 {
     Ok(format!(in alloc; "gambit: line {number} is not a profile\n")?)
 }
 
 /// The line of a player who is not there; players count from 1.
-pub fn absent_line(alloc: Global, number: u32) -> Result<String, Memory>
+pub(crate) fn absent_line(alloc: Global, number: u32) -> Result<String, Memory>
     ensures { IfOk result (λ line. string_bytes line ≡ refusal_line (refusal.NoSuchPlayer number)) }
 {
     Ok(format!(in alloc; "gambit: no player {number}\n")?)
 }
 
 /// The line of a player who is both the row and the column; players count from 1.
-pub fn twice_line(alloc: Global, number: u32) -> Result<String, Memory>
+pub(crate) fn twice_line(alloc: Global, number: u32) -> Result<String, Memory>
     ensures { IfOk result (λ line. string_bytes line ≡ refusal_line (refusal.SamePlayer number)) }
 {
     Ok(format!(in alloc; "gambit: player {number} is both row and column\n")?)
 }
 
 /// The line of a step that does not fit, with its site, its operation and its operands.
-pub fn range_line(alloc: Global, site: &Site, unfit: Unfit) -> Result<String, Memory>
+pub(crate) fn range_line(alloc: Global, site: &Site, unfit: Unfit) -> Result<String, Memory>
     ensures { IfOk result (λ line.
         string_bytes line ≡ refusal_line (refusal.Range site.now unfit)) }
 {
@@ -361,7 +361,12 @@ pub fn range_line(alloc: Global, site: &Site, unfit: Unfit) -> Result<String, Me
 }
 
 /// The line of a step in a subgame that does not fit, with the node at which the subgame begins.
-pub fn subgame_line(alloc: Global, node: u32, site: &Site, unfit: Unfit) -> Result<String, Memory>
+pub(crate) fn subgame_line(
+    alloc: Global,
+    node: u32,
+    site: &Site,
+    unfit: Unfit,
+) -> Result<String, Memory>
     ensures { IfOk result (λ line.
         string_bytes line ≡ refusal_line (refusal.SubgameRange node site.now unfit)) }
 {

@@ -67,9 +67,9 @@ pub enum Site {
         /// The row.
         row: u32,
     },
-    /// In a step of a path.
+    /// In a pivot of a path.
     Step {
-        /// The step.
+        /// The pivot's number, from 1.
         step: u64,
         /// The entering variable.
         entering: u32,

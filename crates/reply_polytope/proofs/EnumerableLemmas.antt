@@ -4,9 +4,9 @@ use Rattle.std.proofs.Common.{ℕ, zero, suc, ◌+◌, ◌<◌, ◌≤◌, ◌�
 use Rattle.rational.specs.Rational.{ℚ, zero_ℚ, one_ℚ, ◌≤ℚ◌}
 use Rattle.rational.proofs.InverseLemmas.{zero_le_one}
 use Rattle.linear_systems.specs.Tableau.{Tableau}
-use Rattle.linear_systems.specs.Reached.{IsVariableOf, in_row, in_column}
+use Rattle.linear_systems.specs.RowEquivalence.{IsVariableOf, in_row, in_column}
 use Rattle.linear_systems.proofs.AgreementLemmas.{alike_sym}
-use Rattle.linear_systems.proofs.ReachedTableauLemmas.{stands_alike}
+use Rattle.linear_systems.proofs.RowEquivalenceLemmas.{stands_alike}
 use Rattle.game_theory.specs.Profiles.{Game}
 use Rattle.extreme_equilibria.specs.TwoPlayers.{pays_against}
 use Rattle.extreme_equilibria.specs.Bimatrix.{shifted, shift_of}

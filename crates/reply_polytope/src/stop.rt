@@ -1,10 +1,11 @@
 // Why a game has no two systems.
-use frac128::{Memory, Unfit};
+use answers::Memory;
+use frac128::Unfit;
 use game_core::TooLarge;
 use std::alloc::{AllocError, AllocFailed};
 
 /// Why a game has no two systems.
-#[derive(Clone, Copy, Debug)]
+#[derive(Clone, Copy, Debug, PartialEq, Eq)]
 pub enum PolyStop {
     /// The game has another number of players.
     NotTwoPlayers {

@@ -5,7 +5,8 @@ ghost use Rattle.lex_tableau.specs.Entries.{AreEntries, entry_of};
 ghost use Rattle.reply_polytope.specs.Polytopes.{IsRatedSystem, most_labels};
 ghost use Rattle.reply_polytope.specs.Shapes.{IsReadable, cell_in, slack_system};
 
-use frac128::{Frac, Memory};
+use answers::Memory;
+use frac128::Frac;
 use lex_tableau::{System, numbered};
 use std::alloc::Global;
 

@@ -10,7 +10,8 @@ ghost use Rattle.sequence_data.specs.declared.stop.SeqStop.TheVariants as stops;
 use crate::steps::{sum, with_product};
 use crate::stop::SeqStop;
 use crate::types::{Cell, Leaf};
-use frac128::{Frac, Memory};
+use answers::Memory;
+use frac128::Frac;
 use std::alloc::Global;
 
 // The place of a leaf's cell, where the cells stand row by row with so many columns.

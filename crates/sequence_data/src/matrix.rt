@@ -4,7 +4,8 @@ ghost use Rattle.sequence_data.specs.Cells.{AreCellsInOrder};
 ghost use Rattle.sequence_data.specs.Matrices.{HoldsNumbers, IsInside, placed};
 
 use crate::types::Cell;
-use frac128::{Frac, Memory};
+use answers::Memory;
+use frac128::Frac;
 use std::alloc::Global;
 
 /// A matrix row by row: at each cell its number, and 0 elsewhere.

@@ -1,5 +1,6 @@
 // Why a game has no sequence form here.
-use frac128::{Memory, Unfit};
+use answers::Memory;
+use frac128::Unfit;
 use std::alloc::{AllocError, AllocFailed};
 
 /// Why a game has no sequence form here.

@@ -97,12 +97,6 @@ module _ (t : Tree) (i : ℕ) where
   pub rows-other : (n : ℕ) → is_own t i n ≡ false → map (own_set_row t i) (numbers_with t.owner i (n + 1)) ≡ map (own_set_row t i) (numbers_with t.owner i n)
   rows-other n other = ap (map (own_set_row t i)) (other-next n other)
 
-  pub count-own : (n : ℕ) → is_own t i n ≡ true → length (numbers_with t.owner i (n + 1)) ≡ length (numbers_with t.owner i n) + 1
-  count-own n own = ap length (own-next n own) ∙ length_push (numbers_with t.owner i n) n
-
-  pub count-other : (n : ℕ) → is_own t i n ≡ false → length (numbers_with t.owner i (n + 1)) ≡ length (numbers_with t.owner i n)
-  count-other n other = ap length (other-next n other)
-
 -- ---- they fit 32 bits
 pub actions-few : (t : GameTree) (i s : ℕ) → IsGameTree t → s < length t.sets → sequence_count_of (game_of_tree t) i s < 65536
 actions-few t i s valid below = go (is_own (game_of_tree t) i s) (actions-below t s valid below)

@@ -11,7 +11,6 @@ ghost use Rattle.sequence_form.specs.Forms.{IsTableForm, IsTreeForm};
 ghost use Rattle.sequence_form.specs.Sequences.{start_side, tree_side};
 
 use crate::sequences::sequence_count_of;
-use game_core::tree_parts::{is_own, stands_for_game_tree};
 use game_core::{Table, Tree};
 use sequence_data::Counts;
 
@@ -20,7 +19,7 @@ fn sequence_count(tree: &Tree, player: u32) -> u64
     ensures value { result ≡ sequences (side_of (game_of_tree tree.now) player) }
     ensures few { result < 2 ^ 32 }
 {
-    stands_for_game_tree(tree);
+    tree.stands_for_game_tree();
     let mut count = 1;
     for set in 0..tree.sets().len() {
         count += sequence_count_of(tree, set, player) as u64;
@@ -33,14 +32,8 @@ fn set_count(tree: &Tree, player: u32) -> u64
     ensures value { result ≡ length (own_sets (game_of_tree tree.now) player) }
     ensures few { result < 2 ^ 32 }
 {
-    stands_for_game_tree(tree);
-    let mut count = 0;
-    for set in 0..tree.sets().len() {
-        if is_own(tree, set, player) {
-            count += 1;
-        }
-    }
-    count
+    tree.stands_for_game_tree();
+    tree.sets_of(player).len() as u64
 }
 
 /// The sizes of the sequence form of a tree of two players, before it is made. Takes no memory.

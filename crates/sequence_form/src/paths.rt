@@ -13,7 +13,6 @@ ghost use Rattle.sequence_form.specs.Sequences.{AreFirsts};
 use answers::Memory;
 use frac128::Frac;
 use game_core::Tree;
-use game_core::tree_parts::{branch, owner, parent, pays, probability, set, stands_for_game_tree};
 use sequence_data::{Leaf, SeqStop, product, sum};
 use sequence_forms::{last_sequences_recur, paths_add_up};
 use std::alloc::Global;
@@ -27,13 +26,13 @@ fn last_sequence(tree: &Tree, firsts: &[u32], player: u32, above: u32, node: usi
         ≡ last_sequence (game_of_tree tree.now) player ((game_of_tree tree.now).parent node) }
     ensures { result ≡ last_sequence (game_of_tree tree.now) player node }
 {
-    stands_for_game_tree(tree);
+    tree.stands_for_game_tree();
     last_sequences_recur();
-    let Some(set) = set(tree, parent(tree, node)) else {
+    let Some(set) = tree.set_at(tree.parent(node)) else {
         return above;
     };
-    match owner(tree, set as usize) {
-        Some(own) if own == player => firsts[set as usize] + branch(tree, node),
+    match tree.owner(set as usize) {
+        Some(own) if own == player => firsts[set as usize] + tree.branch(node),
         _ => above,
     }
 }
@@ -48,15 +47,15 @@ fn chance(tree: &Tree, above: Frac, node: usize) -> Result<Frac, SeqStop>
     ensures steps { let t = game_of_tree tree.now in fit_at node
         (chance_steps t node (t.set (t.parent node))) (map_ok result (λ _. tt)) }
 {
-    stands_for_game_tree(tree);
+    tree.stands_for_game_tree();
     paths_add_up();
-    let Some(set) = set(tree, parent(tree, node)) else {
+    let Some(set) = tree.set_at(tree.parent(node)) else {
         return Ok(above);
     };
-    match owner(tree, set as usize) {
+    match tree.owner(set as usize) {
         Some(_) => Ok(above),
         None => {
-            let probability = probability(tree, set as usize, branch(tree, node) as usize);
+            let probability = tree.probability(set as usize, tree.branch(node) as usize);
             product(node as u32, above, probability)
         }
     }
@@ -67,14 +66,14 @@ fn root_path(tree: &Tree) -> Leaf
     requires { length tree.now.players ≡ 2 }
     ensures { result ≡ leaf_at (game_of_tree tree.now) 0 }
 {
-    stands_for_game_tree(tree);
+    tree.stands_for_game_tree();
     Leaf {
         place: 0,
         row: 0,
         column: 0,
         chance: Frac::one(),
-        one: pays(tree, 0, 0),
-        two: pays(tree, 0, 1),
+        one: tree.pays(0, 0),
+        two: tree.pays(0, 1),
     }
 }
 
@@ -96,11 +95,11 @@ fn next_path(
     ensures steps { fit_at node (child_steps (game_of_tree tree.now) node)
         (map_ok result (λ _. tt)) }
 {
-    stands_for_game_tree(tree);
+    tree.stands_for_game_tree();
     paths_add_up();
     let chance = chance(tree, above.chance, node)?;
-    let one = sum(node as u32, above.one, pays(tree, node, 0))?;
-    let two = sum(node as u32, above.two, pays(tree, node, 1))?;
+    let one = sum(node as u32, above.one, tree.pays(node, 0))?;
+    let two = sum(node as u32, above.two, tree.pays(node, 1))?;
     Ok(Leaf {
         place: node as u32,
         row: last_sequence(tree, firsts_one, 0, above.row, node),
@@ -126,12 +125,12 @@ pub(crate) fn paths(
     ensures steps { Gives stops.Memory (paths_in (game_of_tree tree.now))
         (map_ok result (λ _. tt)) }
 {
-    stands_for_game_tree(tree);
+    tree.stands_for_game_tree();
     let nodes = tree.nodes().len();
     let mut paths = Vec::with_capacity(alloc, nodes)?;
     paths.push(root_path(tree))?;
     for node in 1..nodes {
-        let above = paths[parent(tree, node)];
+        let above = paths[tree.parent(node)];
         paths.push(next_path(tree, firsts_one, firsts_two, above, node)?)?;
     }
     Ok(paths)
@@ -146,7 +145,7 @@ pub(crate) fn leaves(alloc: Global, tree: &Tree, paths: &[Leaf]) -> Result<Vec<L
     let nodes = tree.nodes().len();
     let mut leaves = Vec::new(alloc);
     for node in 0..nodes {
-        if set(tree, node).is_none() {
+        if tree.set_at(node).is_none() {
             leaves.push(paths[node])?;
         }
     }

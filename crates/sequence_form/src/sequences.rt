@@ -7,7 +7,6 @@ ghost use Rattle.sequence_form.specs.Sequences.{AreFirsts, own_set_row, sequence
 
 use answers::Memory;
 use game_core::Tree;
-use game_core::tree_parts::{action_count, is_own, stands_for_game_tree};
 use perfect_recall::Recall;
 use sequence_data::{SetRow, Side};
 use std::alloc::Global;
@@ -18,9 +17,9 @@ pub(crate) fn sequence_count_of(tree: &Tree, set: usize, player: u32) -> u32
     ensures value { result ≡ sequence_count_of (game_of_tree tree.now) player set }
     ensures few { result < 65536 }
 {
-    stands_for_game_tree(tree);
-    if is_own(tree, set, player) {
-        action_count(tree, set) as u32
+    tree.stands_for_game_tree();
+    if tree.is_own(set, player) {
+        tree.action_count(set) as u32
     } else {
         0
     }
@@ -30,7 +29,7 @@ pub(crate) fn sequence_count_of(tree: &Tree, set: usize, player: u32) -> u32
 pub(crate) fn first_sequences(alloc: Global, tree: &Tree, player: u32) -> Result<Vec<u32>, Memory>
     ensures { IfOk result (λ firsts. AreFirsts (game_of_tree tree.now) player firsts.items) }
 {
-    stands_for_game_tree(tree);
+    tree.stands_for_game_tree();
     let sets = tree.sets().len();
     let mut firsts = Vec::with_capacity(alloc, sets + 1)?;
     let mut next = 1;
@@ -50,7 +49,7 @@ fn sequence_before(tree: &Tree, recall: &Recall, firsts: &[u32], player: u32, se
     requires own { (game_of_tree tree.now).owner set ≡ Some player }
     ensures { result ≡ sequence_before (game_of_tree tree.now) player set }
 {
-    stands_for_game_tree(tree);
+    tree.stands_for_game_tree();
     match recall.before()[set] {
         Some((own, action)) => firsts[own as usize] + action,
         None => 0,
@@ -65,11 +64,11 @@ fn own_set_row(tree: &Tree, recall: &Recall, firsts: &[u32], player: u32, set: u
     requires own { (game_of_tree tree.now).owner set ≡ Some player }
     ensures { result ≡ own_set_row (game_of_tree tree.now) player set }
 {
-    stands_for_game_tree(tree);
+    tree.stands_for_game_tree();
     SetRow {
         before: sequence_before(tree, recall, firsts, player, set),
         first: firsts[set],
-        count: action_count(tree, set) as u32,
+        count: tree.action_count(set) as u32,
     }
 }
 
@@ -88,7 +87,7 @@ pub(crate) fn side(
     let sets = tree.sets().len();
     let mut rows = Vec::new(alloc);
     for set in 0..sets {
-        if is_own(tree, set, player) {
+        if tree.is_own(set, player) {
             rows.push(own_set_row(tree, recall, firsts, player, set))?;
         }
     }

@@ -8,7 +8,6 @@ ghost use Rattle.sequence_form.specs.Forms.{tree_form};
 use crate::paths::{leaves, paths};
 use crate::sequences::{first_sequences, side};
 use game_core::Tree;
-use game_core::tree_parts::stands_for_game_tree;
 use perfect_recall::Recall;
 use sequence_data::{SeqForm, SeqStop};
 use std::alloc::Global;
@@ -25,7 +24,7 @@ pub fn build(alloc: Global, tree: &Tree, recall: &Recall) -> Result<SeqForm, Seq
     requires { IsRecallOf (game_of_tree tree.now) recall.now }
     ensures { Gives stops.Memory (tree_form tree.now) result }
 {
-    stands_for_game_tree(tree);
+    tree.stands_for_game_tree();
     let players = tree.players().len();
     if players != 2 {
         return Err(SeqStop::NotTwoPlayers {

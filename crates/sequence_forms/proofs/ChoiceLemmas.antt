@@ -131,18 +131,18 @@ others_realise t b i j choice x ne r =
 
 -- a reply to valid behaviour is valid
 pub reply_valid : (t : Tree) (b : Behaviour) (i : ℕ) (choice : ℕ → ℕ) → IsChoice t i choice → IsValid t b → IsValid t (reply t b i choice)
-reply_valid t b i choice c v = record { not_negative = not_negative; sum_is_one = one }
+reply_valid t b i choice c v s j l e = record { not_negative = λ a. not_negative s j a l e; sum_is_one = one s j l e }
   where
     not_negative : (s j a : ℕ) → s < t.sets → t.owner s ≡ Some j → a < t.actions s → zero_ℚ ≤ℚ reply t b i choice s a
     not_negative s j a l e m = go (is_own t i s)
       where
         go : (d : Bool) → zero_ℚ ≤ℚ (if d then sure (choice s) a else b s a)
         go true = sure-not_negative (choice s) a
-        go false = v.not_negative s j a l e m
+        go false = (v s j l e).not_negative a m
 
     one : (s j : ℕ) → s < t.sets → t.owner s ≡ Some j → sum_to (t.actions s) (reply t b i choice s) ≡ one_ℚ
     one s j l e = go (is_own t i s) (is_own-decides t i s)
       where
         go : (d : Bool) → Decides d (t.owner s ≡ Some i) → sum_to (t.actions s) (λ a. if d then sure (choice s) a else b s a) ≡ one_ℚ
         go true d = sum_to-sure (t.actions s) (choice s) (c s l (d.0 refl))
-        go false d = v.sum_is_one s j l e
+        go false d = (v s j l e).sum_is_one

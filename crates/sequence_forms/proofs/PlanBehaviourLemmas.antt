@@ -36,8 +36,8 @@ behaviour-at t plans i s a e = ap (share_of t plans s a) e
 
 -- the behaviour of plans is valid
 pub plans_valid : (t : Tree) (plans : ℕ → ℕ → ℚ) → IsTree t → ((i : ℕ) → i < t.players → IsRealisationPlan (side_of t i) (plans i)) → IsValid t (behaviour_of t plans)
-plans_valid t plans w p =
-    record { not_negative = not_negative; sum_is_one = one }
+plans_valid t plans w p s i l e =
+    record { not_negative = λ a. not_negative s i a l e; sum_is_one = one s i l e }
   where
     after : (s i : ℕ) → s < t.sets → t.owner s ≡ Some i → (a : ℕ) → a < t.actions s → zero_ℚ ≤ℚ plans i (sequence t i (Some (s, a)))
     after s i l e = after_not_negative t i s (plans i) (p i (w.owners_within s i l e)) l e

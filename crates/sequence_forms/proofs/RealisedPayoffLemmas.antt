@@ -64,7 +64,7 @@ probabilities_sum t b w v s l = go (t.owner s) refl
   where
     go : (o : Option ℕ) → t.owner s ≡ o → sum_to (t.actions s) (λ a. of_owner o (t.chance s a) (b s a)) ≡ one_ℚ
     go None e = (w.chance_distributions s l e).sum_is_one
-    go (Some i) e = v.sum_is_one s i l e
+    go (Some i) e = (v s i l e).sum_is_one
 
 -- the payoffs of the paths add up
 pub path_adds : (t : Tree) (i : ℕ) → IsTree t → AddsUp t (λ k. t.pays k i) (payoff_of_path t i)

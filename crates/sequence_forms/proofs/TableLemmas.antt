@@ -112,7 +112,7 @@ second_replies_pay g m n x y s i e =
 -- best plans are an equilibrium
 pub best_plans_are_table_equilibria : BestPlansAreTableEquilibria
 best_plans_are_table_equilibria g m n x y e p =
-    record { valid = subst (λ ns. IsValid ns (mixed_of_plans (of_two x y))) (sym e) (record { not_negative = signs; sum_is_one = sums }); no_better_reply = λ i s l b. better i s (subst (λ ns. i < length ns) e l) (subst (λ ns. s < slice_index ns i) e b) }
+    record { valid = subst (λ ns. IsValid ns (mixed_of_plans (of_two x y))) (sym e) (λ i l. record { not_negative = λ s. signs i s l; sum_is_one = sums i l }); no_better_reply = λ i s l b. better i s (subst (λ ns. i < length ns) e l) (subst (λ ns. s < slice_index ns i) e b) }
   where
     sign : (k : ℕ) (z : ℕ → ℚ) (s : ℕ) → IsRealisationPlan (one_set k) z → s < k → zero_ℚ ≤ℚ z (suc s)
     sign k z s pz h = pz.not_negative (suc s) (omega arith)

@@ -9,7 +9,6 @@ ghost use Rattle.game_theory.specs.OwnSets.{Chooses, own_sets};
 
 use crate::{Decision, Edge};
 use answers::Memory;
-use game_core::tree_parts::choice_at;
 use game_core::{LastMove, Tree, last_moves, trees_are_game_trees};
 use std::alloc::Global;
 
@@ -96,7 +95,7 @@ fn take(
 
 /// The decisions of each player, each after those before it. Nodes of one set with the same own history can share
 /// one. `places` has each set's place among its owner's own sets.
-pub fn decisions_of_all(
+pub(crate) fn decisions_of_all(
     alloc: Global,
     tree: &Tree,
     places: &[u32],
@@ -112,7 +111,7 @@ pub fn decisions_of_all(
     let mut numbers = Vec::new(alloc);
     for node in 0..tree.nodes().len() {
         let mut number = 0;
-        if let Some((player, set)) = choice_at(tree, node) {
+        if let Some((player, set)) = tree.choice_at(node) {
             let last = moves[node];
             let decision = decision_at(tree, places, numbers.as_slice(), node, player, last);
             let list = &mut lists[player as usize];

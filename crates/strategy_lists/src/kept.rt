@@ -8,7 +8,11 @@ use answers::Memory;
 use std::alloc::Global;
 
 // For each set whether it has two decisions.
-pub fn shared_sets(alloc: Global, decisions: &[Decision], sets: usize) -> Result<Vec<bool>, Memory>
+pub(crate) fn shared_sets(
+    alloc: Global,
+    decisions: &[Decision],
+    sets: usize,
+) -> Result<Vec<bool>, Memory>
     requires { All (λ d. d.place < sets) decisions.now }
     ensures { IfOk result (λ shared. AreShared decisions.now sets shared.items) }
 {
@@ -74,7 +78,7 @@ fn renumbered(decision: Decision, numbers: &[u32]) -> Decision
 }
 
 /// The decisions that a count has to go over, which are fewer and have as many reduced strategies.
-pub fn kept_decisions(
+pub(crate) fn kept_decisions(
     alloc: Global,
     decisions: &[Decision],
     actions: &[u32],

@@ -142,8 +142,7 @@ module _ (t : GameTree) (w : IsTree (game_of_tree t)) (begins : List Bool) (n : 
   pub is_cut_game : IsCutGame (game_of_tree t) n (λ k i. entry_at worth (k * length t.players + i)) nodes sets (game_of_tree made_cut)
   is_cut_game = record {
     players = length-replicate (length t.players) [];
-    ascending = are_nodes.ascending;
-    are_nodes = are_nodes.are_all;
+    are_nodes = are_nodes.are_nodes;
     size = node_count;
     parents = λ j later below. parent_is j later (omega (arith, below, node_count));
     branches = λ j later below. branch_is j later (omega (arith, below, node_count));

@@ -16,9 +16,10 @@ use Rattle.game_core.specs.declared.tree.Node.{Node}
 use Rattle.game_core.specs.Tree.{AreInPrefixOrder, GameTree, InformationSet, IsGameTree, action_count, branches_from}
 use Rattle.game_core.specs.TreeGame.{game_of_tree}
 use Rattle.subgames.specs.CutGames.{IsInCut, IsSameSet}
-use Rattle.subgames.specs.CutParts.{AreSetNames, IsIndexOf, actions_of, cut_information_set, cut_node, cut_set, is_given_end, without_name}
+use Rattle.lists.specs.Listed.{IsIndexOf}
+use Rattle.subgames.specs.CutParts.{AreSetNames, actions_of, cut_information_set, cut_node, cut_set, is_given_end, without_name}
 use Rattle.subgames.specs.FoundSubgames.{AreRootMarks}
-use Rattle.subgames.proofs.CutListLemmas.{index-once}
+use Rattle.lists.proofs.ListedLemmas.{index-none, index-once}
 use Rattle.subgames.proofs.CutWalkLemmas.{AreCutNodes, cut-after, cut-root, cut-told_at, cut-up, index-tells, is_given_end-is}
 use Rattle.subgames.proofs.CutOrderLemmas.{AreThose, HasSameBranches, IsIn, IsOut, LeadThere, kept-all, kept-none, kept_from, order-tree}
 
@@ -31,13 +32,13 @@ made-at f make m j d below =
 
 -- the index of a number that stands there
 pub some-index : (numbers : List ℕ) (k : ℕ) (index : Option ℕ) → IsIndexOf numbers k index → Contains numbers k → (i : ℕ) × (index ≡ Some i) × (i < length numbers) × (get_or numbers i 0 ≡ k)
-some-index numbers k None out found = absurd (out found)
+some-index numbers k None out found = absurd (index-none numbers k out found)
 some-index numbers k (Some i) at found = (i, refl, at.0, at.1)
 
 -- a number that does not stand there has none
-none-index : (numbers : List ℕ) (k : ℕ) (index : Option ℕ) → IsIndexOf numbers k index → (Contains numbers k → ⊥) → index ≡ None
-none-index numbers k None at out = refl
-none-index numbers k (Some i) at out = absurd (out (subst (Contains numbers) at.1 (Contains-get_or numbers i 0 at.0)))
+no-index : (numbers : List ℕ) (k : ℕ) (index : Option ℕ) → IsIndexOf numbers k index → (Contains numbers k → ⊥) → index ≡ None
+no-index numbers k None at out = refl
+no-index numbers k (Some i) at out = absurd (out (subst (Contains numbers) at.1 (Contains-get_or numbers i 0 at.0)))
 
 -- how many actions stand at an index
 counts-at : (sets : List InformationSet) (s : ℕ) → get_or (map (λ set. length set.actions) sets) s 0 ≡ length (get_or (map (λ set. set.actions) sets) s [])
@@ -50,22 +51,22 @@ module _ (t : GameTree) (w : IsTree (game_of_tree t)) (begins : List Bool) (n : 
     (marks : AreRootMarks (game_of_tree t) begins) (root_within : n < length t.nodes) (are_nodes : AreCutNodes (game_of_tree t) n nodes indices) where
   -- each of them is a node of the tree, no earlier than the root
   pub node-cut : (j : ℕ) → j < length nodes → IsInCut (game_of_tree t) n (get_or nodes j 0)
-  node-cut j below = (are_nodes.are_all (get_or nodes j 0)).0 (Contains-get_or nodes j 0 below)
+  node-cut j below = are_nodes.are_nodes.sound (get_or nodes j 0) (Contains-get_or nodes j 0 below)
 
   -- the root comes first
   pub root-first : (0 < length nodes) × (get_or nodes 0 0 ≡ n)
   root-first =
-      let at = index_of nodes n ((are_nodes.are_all n).1 (cut-root (game_of_tree t) w n root_within)) in
+      let at = index_of nodes n (are_nodes.are_nodes.complete n (cut-root (game_of_tree t) w n root_within)) in
       let some : 0 < length nodes = omega (arith, at.1) in
       let low = cut-after (game_of_tree t) w n (get_or nodes 0 0) (node-cut 0 some) in
       elim (cases_eq at.0 0) [
         | inl same ↦ (some, ap (λ i. get_or nodes i 0) (sym same) ∙ at.2)
-        | inr other ↦ absurd (omega (arith, low, at.2, AllPairs-from_increasing nodes are_nodes.ascending 0 at.0 0 (omega (arith, other)) at.1))
+        | inr other ↦ absurd (omega (arith, low, at.2, AllPairs-from_increasing nodes are_nodes.are_nodes.ascending 0 at.0 0 (omega (arith, other)) at.1))
       ]
 
   -- the others come later
   pub others-later : (j : ℕ) → 0 < j → j < length nodes → n < get_or nodes j 0
-  others-later j later below = omega (arith, root-first.1, AllPairs-from_increasing nodes are_nodes.ascending 0 j 0 later below)
+  others-later j later below = omega (arith, root-first.1, AllPairs-from_increasing nodes are_nodes.are_nodes.ascending 0 j 0 later below)
 
   -- whether a node stands in the cut and is no given end
   abbrev pub goes : ℕ → Bool
@@ -82,7 +83,7 @@ module _ (t : GameTree) (w : IsTree (game_of_tree t)) (begins : List Bool) (n : 
       let inside : p < length t.nodes = omega (arith, w.after_parent k (omega arith) below, below) in
       let tells = index-tells nodes p (get_or indices p None) (are_nodes.indices_are.are p inside) in
       cut-told_at (game_of_tree t) w n k below later p (is_some (get_or indices p None)) (is_given_end begins n p) refl
-      (λ e. (are_nodes.are_all p).0 (tells.0 e), λ cut. tells.1 ((are_nodes.are_all p).1 cut)) (is_given_end-is (game_of_tree t) begins n p marks inside)
+      (λ e. are_nodes.are_nodes.sound p (tells.0 e), λ cut. tells.1 (are_nodes.are_nodes.complete p cut)) (is_given_end-is (game_of_tree t) begins n p marks inside)
 
   -- the parent of a later node, by its index
   pub parent-index : (j : ℕ) → 0 < j → j < length nodes → (i : ℕ) × (get_or indices ((game_of_tree t).parent (get_or nodes j 0)) None ≡ Some i) × (i < length nodes) × (get_or nodes i 0 ≡ (game_of_tree t).parent (get_or nodes j 0))
@@ -92,12 +93,12 @@ module _ (t : GameTree) (w : IsTree (game_of_tree t)) (begins : List Bool) (n : 
       let p = (game_of_tree t).parent k in
       let inside : p < length t.nodes = omega (arith, w.after_parent k (omega (arith, others-later j later below)) cut.0, cut.0) in
       let up = cut-up (game_of_tree t) w n k cut.0 (others-later j later below) cut in
-      some-index nodes p (get_or indices p None) (are_nodes.indices_are.are p inside) ((are_nodes.are_all p).1 up.0)
+      some-index nodes p (get_or indices p None) (are_nodes.indices_are.are p inside) (are_nodes.are_nodes.complete p up.0)
 
   -- a node that stands there, by its index
   pub own-index : (j : ℕ) → j < length nodes → get_or indices (get_or nodes j 0) None ≡ Some j
   own-index j below =
-      index-once nodes (get_or nodes j 0) (get_or indices (get_or nodes j 0) None) (Some j) are_nodes.ascending (are_nodes.indices_are.are (get_or nodes j 0) (node-cut j below).0) (below, refl)
+      index-once nodes (get_or nodes j 0) (get_or indices (get_or nodes j 0) None) (Some j) are_nodes.are_nodes.ascending (are_nodes.indices_are.are (get_or nodes j 0) (node-cut j below).0) (below, refl)
 
   module _ (sets : List ℕ) (names : List (Option ℕ)) (are_sets : AreSetNames (map (cut_set (game_of_tree t) begins n) nodes) names sets) where
     -- the nodes and the sets that are made
@@ -135,11 +136,11 @@ module _ (t : GameTree) (w : IsTree (game_of_tree t)) (begins : List Bool) (n : 
 
     -- a node that does not stand there is left out
     out-ends : (k : ℕ) → k < length t.nodes → (Contains nodes k → ⊥) → goes k ≡ false
-    out-ends k below out = ap (λ o. cond (is_some o) (not (is_given_end begins n k)) false) (none-index nodes k (get_or indices k None) (are_nodes.indices_are.are k below) out)
+    out-ends k below out = ap (λ o. cond (is_some o) (not (is_given_end begins n k)) false) (no-index nodes k (get_or indices k None) (are_nodes.indices_are.are k below) out)
 
     is-out : (k : ℕ) → k < length t.nodes → n < k → (Contains nodes k → ⊥) → IsOut goes index t.sets new_sets k (get_or t.nodes k (new_node 0))
     is-out k below later out =
-        let stops : goes ((game_of_tree t).parent k) ≡ false = false_from_ne_true (goes ((game_of_tree t).parent k)) (λ e. out ((are_nodes.are_all k).1 ((goes-told k below later).0 e))) in
+        let stops : goes ((game_of_tree t).parent k) ≡ false = false_from_ne_true (goes ((game_of_tree t).parent k)) (λ e. out (are_nodes.are_nodes.complete k ((goes-told k below later).0 e))) in
         record {
           hangs_nowhere = place k below ∙ ap (λ b. cond b ((Some (index ((game_of_tree t).parent k)), (game_of_tree t).branch k) ∷ []) []) stops;
           ends = out-ends k below out;
@@ -198,7 +199,7 @@ module _ (t : GameTree) (w : IsTree (game_of_tree t)) (begins : List Bool) (n : 
         | inl same ↦ let here : get_or nodes i 0 ≡ k = ap (λ x. get_or nodes x 0) same ∙ at in omega (arith, here)
         | inr other ↦ omega (arith, h.before i (omega (arith, less, other)))
       ];
-      after = λ i more inside. omega (arith, at, AllPairs-from_increasing nodes are_nodes.ascending j i 0 (omega (arith, more)) inside);
+      after = λ i more inside. omega (arith, at, AllPairs-from_increasing nodes are_nodes.are_nodes.ascending j i 0 (omega (arith, more)) inside);
     }
 
     -- .. or it does not stand there
@@ -220,7 +221,7 @@ module _ (t : GameTree) (w : IsTree (game_of_tree t)) (begins : List Bool) (n : 
           | inl early ↦ absurd (omega (arith, at.2, h.before at.0 early))
           | inr late ↦ elim (cases_eq at.0 j) [
             | inl same ↦ other (omega (arith, same, at.1)) (ap (λ i. get_or nodes i 0) (sym same) ∙ at.2)
-            | inr apart ↦ absurd (omega (arith, at.2, h.after j (omega arith) (omega (arith, late, at.1)), AllPairs-from_increasing nodes are_nodes.ascending j at.0 0 (omega (arith, late, apart)) at.1))
+            | inr apart ↦ absurd (omega (arith, at.2, h.after j (omega arith) (omega (arith, late, at.1)), AllPairs-from_increasing nodes are_nodes.are_nodes.ascending j at.0 0 (omega (arith, late, apart)) at.1))
           ]
         ]
 
@@ -257,7 +258,7 @@ module _ (t : GameTree) (w : IsTree (game_of_tree t)) (begins : List Bool) (n : 
           | inl same ↦
               let at : get_or nodes 0 0 ≡ k = root-first.1 ∙ sym same in
               inr (new_node 0, drop 1 news, next-new 0 root-first.0, refl, refl, same-branches 0 k root-first.0 at, those m (suc k) 1 (omega (arith, all)) (omega (arith, same)) (omega arith) (come-in 0 k (record { within = omega arith; before = λ i less. absurd (omega (arith, less)); after = λ i more inside. omega (arith, same, cut-after (game_of_tree t) w n (get_or nodes i 0) (node-cut i inside)) }) root-first.0 at))
-          | inr apart ↦ inl (out-ends k below (λ found. absurd (omega (arith, early, apart, cut-after (game_of_tree t) w n k ((are_nodes.are_all k).0 found)))), lead m (suc k) (omega (arith, all)) (omega (arith, early, apart)))
+          | inr apart ↦ inl (out-ends k below (λ found. absurd (omega (arith, early, apart, cut-after (game_of_tree t) w n k (are_nodes.are_nodes.sound k found)))), lead m (suc k) (omega (arith, all)) (omega (arith, early, apart)))
         ])
 
     -- the cut's nodes stand in prefix order

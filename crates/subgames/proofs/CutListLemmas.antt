@@ -1,18 +1,19 @@
 -- The nodes of all cuts, found one after another.
-use Rattle.std.proofs.Common.{ℕ, zero, suc, ◌+◌, ◌<◌, ◌≤◌, ◌≡◌, ◌≢◌, ◌⊎◌, inl, inr, Option, Some, None, List, [], ◌∷◌, ◌++◌, length, get_or, set, replicate, take, refl, sym, ap, ◌∙◌, subst, add-one, arith}
+use Rattle.std.proofs.Common.{ℕ, zero, suc, ◌+◌, ◌<◌, ◌≤◌, ◌≡◌, ◌≢◌, ◌⊎◌, inl, inr, Option, Some, None, List, [], ◌∷◌, ◌++◌, length, get_or, set, replicate, take, sym, ap, ◌∙◌, subst, add-one, arith}
 use Rattle.std.specs.Prelude.{All, Contains}
 use Rattle.std.specs.List.Sorted.{IsStrictlyIncreasing}
 use Rattle.std.proofs.Math.Seq.{take-length}
 use Rattle.std.proofs.lemmas.Bool.{cases_eq, cases_lt}
 use Rattle.std.proofs.lemmas.List.{get_or-replicate, get_or-set_other, get_or-set_same, get_or_append_left, get_or_push, length-replicate, length-set, length_push, take_more}
 use Rattle.std.proofs.lemmas.List.Elements.{Contains-get_or}
-use Rattle.std.proofs.lemmas.List.Kept.{AllPairs-from_increasing}
-use Rattle.lists.proofs.AscendingNumberLemmas.{AreListedBelow, AreListedBelow-push, AreListedBelow-skip}
+use Rattle.lists.specs.Listed.{AreListed}
+use Rattle.lists.proofs.ListedLemmas.{IsPassingBelow, listed_below-push, listed_below-skip}
 use Rattle.game_theory.specs.Trees.{Tree, IsTree}
 use Rattle.game_core.specs.Tree.{GameTree}
 use Rattle.game_core.specs.TreeGame.{game_of_tree}
 use Rattle.subgames.specs.CutGames.{IsGivenEnd, IsInCut}
-use Rattle.subgames.specs.CutParts.{AreHomesBefore, AreIndicesIn, GoesOnIn, IsIndexOf, with_node}
+use Rattle.lists.specs.Listed.{IsIndexOf}
+use Rattle.subgames.specs.CutParts.{AreHomesBefore, AreIndicesIn, GoesOnIn, with_node}
 use Rattle.subgames.specs.FoundSubgames.{AreSubgamesOf, FoundSubgames, ListCutsBefore}
 use Rattle.subgames.specs.Roots.{IsSubgameRoot}
 use Rattle.game_theory.proofs.SubtreeOrderLemmas.{above-ordered}
@@ -77,8 +78,11 @@ homes-push t k home homes goes h = record {
 pub cuts-start : (t : Tree) (cuts : List (List ℕ)) → cuts ≡ replicate t.size [] → ListCutsBefore t 0 cuts
 cuts-start t cuts are = record {
   one_for_each = ap length are ∙ length-replicate t.size [];
-  ascending = λ n below. subst IsStrictlyIncreasing (sym (none n below)) (λ k few. absurd (omega (arith, few)));
-  are_all = λ n c below. (λ found. absurd (let inside = subst (λ xs. Contains xs c) (none n below) found in omega (arith, inside.1)), λ cut. absurd (omega (arith, cut.0)));
+  are_nodes = λ n below. record {
+    ascending = subst IsStrictlyIncreasing (sym (none n below)) (λ k few. absurd (omega (arith, few)));
+    sound = λ c found. absurd (let inside = subst (λ xs. Contains xs c) (none n below) found in omega (arith, inside.1));
+    complete = λ c cut. absurd (omega (arith, cut.0));
+  };
 }
   where
     none : (n : ℕ) → n < t.size → get_or cuts n [] ≡ []
@@ -93,17 +97,15 @@ module _ (t : Tree) (k : ℕ) (cuts : List (List ℕ)) (h : ListCutsBefore t k c
   next : (new : List (List ℕ)) → length new ≡ length cuts → ((n : ℕ) → n < t.size → ((get_or new n [] ≡ get_or cuts n [] ++ k ∷ []) × Stands n) ⊎ ((get_or new n [] ≡ get_or cuts n []) × ¬ Stands n)) → ListCutsBefore t (k + 1) new
   next new many each = record {
     one_for_each = many ∙ h.one_for_each;
-    ascending = λ n below. (listed n below).ascending;
-    are_all = λ n c below. (listed n below).are_all c;
+    are_nodes = listed;
   }
     where
-      listed : (n : ℕ) → n < t.size → AreListedBelow (λ c. IsSubgameRoot t n × IsInCut t n c) (k + 1) (get_or new n [])
+      listed : (n : ℕ) → n < t.size → AreListed (IsPassingBelow (λ c. IsSubgameRoot t n × IsInCut t n c) (k + 1)) (get_or new n [])
       listed n below =
           let P : ℕ → Type 0 = λ c. IsSubgameRoot t n × IsInCut t n c in
-          let was : AreListedBelow P k (get_or cuts n []) = record { ascending = h.ascending n below; are_all = λ c. h.are_all n c below } in
           elim (each n below) [
-            | inl in_list ↦ subst (AreListedBelow P (k + 1)) (sym in_list.0) (AreListedBelow-push P k (get_or cuts n []) was in_list.1)
-            | inr out ↦ subst (AreListedBelow P (k + 1)) (sym out.0) (AreListedBelow-skip P k (get_or cuts n []) was out.1)
+            | inl in_list ↦ subst (AreListed (IsPassingBelow P (k + 1))) (sym in_list.0) (listed_below-push P k (get_or cuts n []) (h.are_nodes n below) in_list.1)
+            | inr out ↦ subst (AreListed (IsPassingBelow P (k + 1))) (sym out.0) (listed_below-skip P k (get_or cuts n []) (h.are_nodes n below) out.1)
           ]
 
   module _ (w : IsTree t) (below : k < t.size) (home : ℕ) (goes : GoesOnIn t home k) where
@@ -152,16 +154,6 @@ module _ (t : Tree) (k : ℕ) (cuts : List (List ℕ)) (h : ListCutsBefore t k c
         ]
 
 -- ---- indices
--- an increasing list has one index of a number
-pub index-once : (numbers : List ℕ) (k : ℕ) (a b : Option ℕ) → IsStrictlyIncreasing numbers → IsIndexOf numbers k a → IsIndexOf numbers k b → a ≡ b
-index-once numbers k None None rises one two = refl
-index-once numbers k None (Some j) rises one two = absurd (one (subst (Contains numbers) two.1 (Contains-get_or numbers j 0 two.0)))
-index-once numbers k (Some i) None rises one two = absurd (two (subst (Contains numbers) one.1 (Contains-get_or numbers i 0 one.0)))
-index-once numbers k (Some i) (Some j) rises one two = ap Some (elim (cases_lt i j) [
-  | inl less ↦ absurd (omega (arith, one.1, two.1, AllPairs-from_increasing numbers rises i j 0 less two.0))
-  | inr more ↦ elim (cases_eq i j) [ inl is ↦ is | inr other ↦ absurd (omega (arith, one.1, two.1, AllPairs-from_increasing numbers rises j i 0 (omega (arith, more, other)) one.0)) ]
-])
-
 -- numbers below a bound have indices
 pub some-indices : (numbers : List ℕ) (bound : ℕ) → All (λ k. k < bound) numbers → (indices : List (Option ℕ)) × AreIndicesIn numbers bound indices
 some-indices numbers bound within = subst (λ xs. (indices : List (Option ℕ)) × AreIndicesIn xs bound indices) (take-length numbers) (go (length numbers) (omega arith))
@@ -171,7 +163,7 @@ some-indices numbers bound within = subst (λ xs. (indices : List (Option ℕ)) 
       replicate bound None,
       record {
         one_for_each = length-replicate bound None;
-        are = λ k below. subst (IsIndexOf [] k) (sym (get_or-replicate bound k None None below)) (λ found. absurd (omega (arith, found.1)));
+        are = λ k below. subst (IsIndexOf [] k) (sym (get_or-replicate bound k None None below)) (λ j few. absurd (omega (arith, few)));
       },
     )
     go (suc i) few =
@@ -198,16 +190,22 @@ few-below numbers bound rises within = elim (cases_lt bound (length numbers)) [
 module _ (t : Tree) (n : ℕ) (cuts : List (List ℕ)) (h : ListCutsBefore t t.size cuts) (below : n < t.size) where
   -- a list's nodes are nodes of the tree
   pub list-within : All (λ k. k < t.size) (get_or cuts n [])
-  list-within j d inside = ((h.are_all n (get_or (get_or cuts n []) j d) below).0 (Contains-get_or (get_or cuts n []) j d inside)).0
+  list-within j d inside = ((h.are_nodes n below).sound (get_or (get_or cuts n []) j d) (Contains-get_or (get_or cuts n []) j d inside)).0
 
   -- the list where a subgame begins has the nodes of the cut there
   pub list-cut : IsSubgameRoot t n → (indices : List (Option ℕ)) → AreIndicesIn (get_or cuts n []) t.size indices → AreCutNodes t n (get_or cuts n []) indices
   list-cut root indices are = record {
-    ascending = h.ascending n below;
-    are_all = λ k. (λ found. ((h.are_all n k below).0 found).1.1, λ cut. (h.are_all n k below).1 (cut.0, (root, cut)));
-    no_more = few-below (get_or cuts n []) t.size (h.ascending n below) (λ k found. ((h.are_all n k below).0 found).0);
+    are_nodes = record {
+      ascending = list.ascending;
+      sound = λ k found. (list.sound k found).1.1;
+      complete = λ k cut. list.complete k (cut.0, (root, cut));
+    };
+    no_more = few-below (get_or cuts n []) t.size list.ascending (λ k found. (list.sound k found).0);
     indices_are = are;
   }
+    where
+      list : AreListed (IsPassingBelow (λ c. IsSubgameRoot t n × IsInCut t n c) t.size) (get_or cuts n [])
+      list = h.are_nodes n below
 
 -- so what was found has the nodes of each cut
 pub found-nodes : (t : GameTree) (n : ℕ) (found : FoundSubgames) (nodes : List ℕ) → AreSubgamesOf t found → n < length t.nodes → IsSubgameRoot (game_of_tree t) n → nodes ≡ get_or found.cuts n []

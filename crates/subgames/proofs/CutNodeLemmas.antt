@@ -12,18 +12,18 @@ use Rattle.game_theory.proofs.SubtreeOrderLemmas.{within-after}
 module _ (t : Tree) (n : ℕ) (worth : ℕ → ℕ → ℚ) (nodes sets : List ℕ) (c : Tree) (w : IsTree t) (v : IsTree c) (g : IsCutGame t n worth nodes sets c) where
   -- a number's node is in the cut
   pub cut-node : (j : ℕ) → j < c.size → IsInCut t n (get_or nodes j 0)
-  cut-node j below = (g.are_nodes (get_or nodes j 0)).0 (Contains-get_or nodes j 0 (omega (arith, below, g.size)))
+  cut-node j below = g.are_nodes.sound (get_or nodes j 0) (Contains-get_or nodes j 0 (omega (arith, below, g.size)))
 
   -- a later number has a later node
   cut-rises : (j k : ℕ) → j < k → k < c.size → get_or nodes j 0 < get_or nodes k 0
-  cut-rises j k l below = AllPairs-from_increasing nodes g.ascending j k 0 l (omega (arith, below, g.size))
+  cut-rises j k l below = AllPairs-from_increasing nodes g.are_nodes.ascending j k 0 l (omega (arith, below, g.size))
 
   -- the first node of a cut is the one that it is made at
   pub cut-first : n < t.size → get_or nodes 0 0 ≡ n
   cut-first below =
       let only : (m : ℕ) → IsWithin t n m → IsWithin t m n → m ≡ n = λ m from to.
       (let before = within-after t w m n below to in omega (arith, before, within-after t w n m (omega (arith, before, below)) from)) in
-      let there = (g.are_nodes n).1 (below, (0, refl), λ m root from to. inl (only m from to)) in
+      let there = g.are_nodes.complete n (below, (0, refl), λ m root from to. inl (only m from to)) in
       let is : get_or nodes there.0 0 ≡ n = get_or_default nodes there.0 0 n there.1 ∙ there.2 in
       let after = within-after t w n (get_or nodes 0 0) (cut-node 0 v.some_node).0 (cut-node 0 v.some_node).1 in
       elim (cases_eq there.0 0) [

@@ -3,16 +3,16 @@ use Rattle.std.proofs.Common.{ℕ, zero, suc, ◌<◌, ◌≡◌, inl, inr, Opti
 use Rattle.std.proofs.lemmas.Bool.{cases_order}
 use Rattle.std.proofs.lemmas.Grind.{same_number_lists}
 use Rattle.std.proofs.lemmas.Option.{none-some, same_Some}
-use Rattle.lists.proofs.AscendingNumberLemmas.{increasing_same}
+use Rattle.lists.proofs.ListedLemmas.{listed-once}
 use Rattle.rational.specs.Rational.{ℚ}
 use Rattle.game_theory.specs.FirstNodes.{AreNumberedByFirstNodes}
 use Rattle.game_theory.specs.Trees.{Tree}
-use Rattle.subgames.specs.CutGames.{IsCutGame, IsGivenEnd, IsSameSet}
+use Rattle.subgames.specs.CutGames.{IsCutGame, IsGivenEnd, IsInCut, IsSameSet}
 
 -- the nodes of a cut are all that stand in it
 pub cut_nodes-same : (t : Tree) (n : ℕ) (worth other : ℕ → ℕ → ℚ) (nodes nodes_too sets sets_too : List ℕ) (c d : Tree) → IsCutGame t n worth nodes sets c → IsCutGame t n other nodes_too sets_too d → nodes ≡ nodes_too
 cut_nodes-same t n worth other nodes nodes_too sets sets_too c d g h =
-    increasing_same nodes nodes_too g.ascending h.ascending (λ k m. (h.are_nodes k).1 ((g.are_nodes k).0 m)) (λ k m. (g.are_nodes k).1 ((h.are_nodes k).0 m))
+    listed-once (IsInCut t n) nodes nodes_too g.are_nodes h.are_nodes
 
 -- what a number of a cut names in the tree
 named : (sets : List ℕ) (own name : Option ℕ) (r : ℕ) → IsSameSet sets own name → name ≡ Some r → (r < length sets) × (own ≡ Some (get_or sets r 0))

@@ -70,7 +70,7 @@ module _ (t : GameTree) (n : ℕ) (worth other : ℕ → ℕ → ℚ) (nodes set
         let k = get_or nodes j 0 in
         let here = g.same_nodes j below in
         let there = two.is_cut.is_cut.same_nodes j (omega (arith, below, as_many)) in
-        let in_cut = (g.are_nodes k).0 (Contains-get_or nodes j 0 (omega (arith, below, g.size))) in
+        let in_cut = g.are_nodes.sound k (Contains-get_or nodes j 0 (omega (arith, below, g.size))) in
         let own : IsGivenEnd (game_of_tree t) n k → ⊥ = λ given. differ ((here.given given).1 i player ∙ agree k i player in_cut given ∙ sym ((there.given given).1 i player)) in
         absurd (differ ((here.own own).1 i player ∙ sym ((there.own own).1 i player)))
   ]

@@ -13,12 +13,14 @@ use Rattle.lists.proofs.ElementLemmas.{slice_get-end, slice_get-longer, slice_ge
 use Rattle.game_core.specs.Tree.{AreInOrderOfFirstUse}
 use Rattle.game_core.proofs.FirstUseLemmas.{in_order-name, in_order-names}
 use Rattle.subgames.specs.CutGames.{IsSameSet}
-use Rattle.subgames.specs.CutParts.{AreIndicesIn, AreSetNames, HasNumber, IsIndexOf}
+use Rattle.lists.specs.Listed.{IsIndexOf}
+use Rattle.lists.proofs.ListedLemmas.{index-none, none-index}
+use Rattle.subgames.specs.CutParts.{AreIndicesIn, AreSetNames, HasNumber}
 
 -- ---- numbers of sets
 -- with one more number at the end
 pub indices-longer : (numbers : List ℕ) (k c : ℕ) → c ≢ k → (index : Option ℕ) → IsIndexOf numbers c index → IsIndexOf (numbers ++ k ∷ []) c index
-indices-longer numbers k c other None out = λ found. elim (Contains-push_cases numbers k c found) [ inl old ↦ out old | inr last ↦ other (sym last) ]
+indices-longer numbers k c other None out = none-index (numbers ++ k ∷ []) c (λ found. elim (Contains-push_cases numbers k c found) [ inl old ↦ index-none numbers c out old | inr last ↦ other (sym last) ])
 indices-longer numbers k c other (Some j) at = (omega (arith, at.0, length_push numbers k), get_or_append_left numbers (k ∷ []) 0 j at.0 ∙ at.1)
 
 -- a number that does not stand there is added

@@ -1,13 +1,14 @@
 -- The nodes of a cut, as they are found one after another.
 use Rattle.std.proofs.Common.{ℕ, ◌<◌, ◌≤◌, ◌≡◌, ◌≢◌, ◌⊎◌, inl, inr, Bool, true, false, cond, not, Option, Some, None, List, length, get_or, refl, sym, ap, ◌∙◌, subst, arith}
 use Rattle.std.specs.Prelude.{◌↔◌, All, IsTrue, Contains, is_some}
-use Rattle.std.specs.List.Sorted.{IsStrictlyIncreasing}
 use Rattle.std.proofs.lemmas.Bool.{cases_eq, eq-eqb}
 use Rattle.std.proofs.lemmas.List.Elements.{Contains-get_or}
 use Rattle.lists.proofs.NumberLemmas.{unequal}
 use Rattle.game_theory.specs.Trees.{Tree, IsTree, IsWithin}
 use Rattle.subgames.specs.CutGames.{IsGivenEnd, IsInCut}
-use Rattle.subgames.specs.CutParts.{AreIndicesIn, IsIndexOf, is_given_end}
+use Rattle.lists.specs.Listed.{AreListed, IsIndexOf}
+use Rattle.lists.proofs.ListedLemmas.{index-none}
+use Rattle.subgames.specs.CutParts.{AreIndicesIn, is_given_end}
 use Rattle.subgames.specs.FoundSubgames.{AreRootMarks}
 use Rattle.subgames.specs.Roots.{IsSubgameRoot}
 use Rattle.game_theory.proofs.SubtreeOrderLemmas.{within-after, within-parent}
@@ -16,8 +17,7 @@ use Rattle.game_theory.proofs.SubtreeOrderLemmas.{within-after, within-parent}
 -- the nodes of the cut at node n, and for each node of the tree its index among them
 pub record AreCutNodes (t : Tree) (n : ℕ) (nodes : List ℕ) (indices : List (Option ℕ))
     : Type 0 where
-  pub ascending : IsStrictlyIncreasing nodes
-  pub are_all : (k : ℕ) → Contains nodes k ↔ IsInCut t n k
+  pub are_nodes : AreListed (IsInCut t n) nodes
   pub no_more : length nodes ≤ t.size
   pub indices_are : AreIndicesIn nodes t.size indices
 
@@ -98,9 +98,9 @@ is_given_end-is t begins n k marks below = elim (cases_eq k n) [
 -- ---- the nodes
 -- an index tells whether a number stands there
 pub index-tells : (numbers : List ℕ) (k : ℕ) (index : Option ℕ) → IsIndexOf numbers k index → IsTrue (is_some index) ↔ Contains numbers k
-index-tells numbers k None h = (λ e. cc, λ found. absurd (h found))
+index-tells numbers k None h = (λ e. cc, λ found. absurd (index-none numbers k h found))
 index-tells numbers k (Some j) h = (λ e. subst (Contains numbers) h.1 (Contains-get_or numbers j 0 h.0), λ found. refl)
 
 -- they are nodes of the tree
 pub nodes-within : (t : Tree) (n : ℕ) (nodes : List ℕ) (indices : List (Option ℕ)) → AreCutNodes t n nodes indices → All (λ k. k < t.size) nodes
-nodes-within t n nodes indices h k d below = ((h.are_all (get_or nodes k d)).0 (Contains-get_or nodes k d below)).0
+nodes-within t n nodes indices h k d below = (h.are_nodes.sound (get_or nodes k d) (Contains-get_or nodes k d below)).0

@@ -21,14 +21,13 @@ same-game : (t : Tree) (n : ℕ) (worth other : ℕ → ℕ → ℚ) (nodes sets
     → ((k i : ℕ) → i < t.players → IsInCut t n k → IsGivenEnd t n k → worth k i ≡ other k i) → IsCutGame t n worth nodes sets c → IsCutGame t n other nodes sets c
 same-game t n worth other nodes sets c agree g = record {
   players = g.players;
-  ascending = g.ascending;
   are_nodes = g.are_nodes;
   size = g.size;
   parents = g.parents;
   branches = g.branches;
   same_nodes = λ j below.
       let k = get_or nodes j 0 in
-      let inside = (g.are_nodes k).0 (Contains-get_or nodes j 0 (omega (arith, below, g.size))) in
+      let inside = g.are_nodes.sound k (Contains-get_or nodes j 0 (omega (arith, below, g.size))) in
       same-node t n worth other sets c j k (λ end i player. agree k i player inside end) (g.same_nodes j below);
   as_many_sets = g.as_many_sets;
   sets_within = g.sets_within;

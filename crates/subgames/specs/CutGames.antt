@@ -1,7 +1,7 @@
 -- The cuts of a game tree: below each subgame root the nodes down to the next ones, which are ends
 -- with given payoffs. Source: Selten 1965; Kuhn 1953.
-use Rattle.std.specs.Prelude.{ℕ, ◌<◌, ◌≡◌, ◌⊎◌, ◌↔◌, List, Contains, Option, None, Some, length, slice_index}
-use Rattle.std.specs.List.Sorted.{IsStrictlyIncreasing}
+use Rattle.std.specs.Prelude.{ℕ, ◌<◌, ◌≡◌, ◌⊎◌, List, Option, None, Some, length, slice_index}
+use Rattle.lists.specs.Listed.{AreListed}
 use Rattle.rational.specs.Rational.{ℚ}
 use Rattle.game_theory.specs.Behaviour.{Behaviour}
 use Rattle.game_theory.specs.Trees.{Tree, IsWithin}
@@ -35,8 +35,7 @@ pub record IsSameNode (t : Tree) (n : ℕ) (worth : ℕ → ℕ → ℚ) (sets :
 pub record IsCutGame (t : Tree) (n : ℕ) (worth : ℕ → ℕ → ℚ) (nodes sets : List ℕ) (c : Tree)
     : Type 0 where
   pub players : c.players ≡ t.players
-  pub ascending : IsStrictlyIncreasing nodes
-  pub are_nodes : (k : ℕ) → Contains nodes k ↔ IsInCut t n k
+  pub are_nodes : AreListed (IsInCut t n) nodes
   pub size : c.size ≡ length nodes
   pub parents : (j : ℕ) → 0 < j → j < c.size
       → slice_index nodes (c.parent j) ≡ t.parent (slice_index nodes j)

@@ -1,6 +1,7 @@
 -- The parts of a cut that is made: its nodes, its sets, and what both are numbered by.
 use Rattle.std.specs.Prelude.{ℕ, ◌*◌, ◌+◌, ◌<◌, ◌≤◌, ◌≡◌, ◌==◌, ◌⊎◌, Bool, false, if◌then◌else◌, List, [], ◌∷◌, ◌++◌, Contains, length, map, slice_get, slice_index, slice_index_or, slice_set, Option, None, Some}
 use Rattle.std.specs.List.{range_with_len}
+use Rattle.lists.specs.Listed.{IsIndexOf}
 use Rattle.rational.specs.Rational.{ℚ}
 use Rattle.rational.specs.Sum.{entry_at}
 use Rattle.game_theory.specs.OwnSets.{places_with}
@@ -21,11 +22,6 @@ is_given_end begins n k = if k == n then false else slice_index_or begins k fals
 -- the set of the tree that node k has in the cut at node n
 abbrev pub cut_set : Tree → List Bool → ℕ → ℕ → Option ℕ
 cut_set t begins n k = if is_given_end begins n k then None else t.set k
-
--- the index of a number in a list, and nothing where it does not stand there
-abbrev pub IsIndexOf : List ℕ → ℕ → Option ℕ → Type 0
-IsIndexOf numbers k None = ¬ Contains numbers k
-IsIndexOf numbers k (Some j) = (j < length numbers) × (slice_index numbers j ≡ k)
 
 -- for each number below a bound its index in a list
 pub record AreIndicesIn (numbers : List ℕ) (bound : ℕ) (indices : List (Option ℕ)) : Type 0 where

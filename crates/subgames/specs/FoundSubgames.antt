@@ -1,7 +1,7 @@
 -- Where the subgames of a tree begin, as it was found, and the cuts there.
-use Rattle.std.specs.Prelude.{ℕ, ◌<◌, ◌≡◌, ◌↔◌, Bool, IsTrue, List, [], Contains, false, length, slice_index_or, refl}
+use Rattle.std.specs.Prelude.{ℕ, ◌<◌, ◌≡◌, ◌↔◌, Bool, IsTrue, List, [], false, length, slice_index_or, refl}
 use Rattle.std.specs.Coded.{Coded, code_by, coded×, coded_bool, coded_list, coded_ℕ}
-use Rattle.std.specs.List.Sorted.{IsStrictlyIncreasing}
+use Rattle.lists.specs.Listed.{AreListed}
 use Rattle.game_theory.specs.Trees.{Tree}
 use Rattle.game_core.specs.Tree.{GameTree}
 use Rattle.game_core.specs.TreeGame.{game_of_tree}
@@ -17,13 +17,11 @@ pub record AreRootMarks (t : Tree) (begins : List Bool) : Type 0 where
   pub one_for_each : length begins ≡ t.size
   pub are_all : (k : ℕ) → k < t.size → IsMarked begins k ↔ IsSubgameRoot t k
 
--- for each node, where a subgame begins, the nodes before node k of the cut there, in ascending
--- order, and none elsewhere
+-- for each node, where a subgame begins, the nodes before node k of the cut there, and none elsewhere
 pub record ListCutsBefore (t : Tree) (k : ℕ) (cuts : List (List ℕ)) : Type 0 where
   pub one_for_each : length cuts ≡ t.size
-  pub ascending : (n : ℕ) → n < t.size → IsStrictlyIncreasing (slice_index_or cuts n [])
-  pub are_all : (n c : ℕ) → n < t.size
-      → Contains (slice_index_or cuts n []) c ↔ ((c < k) × (IsSubgameRoot t n × IsInCut t n c))
+  pub are_nodes : (n : ℕ) → n < t.size
+      → AreListed (λ c. (c < k) × (IsSubgameRoot t n × IsInCut t n c)) (slice_index_or cuts n [])
 
 -- marks on nodes, and the nodes of cuts
 pub record FoundSubgames : Type 0 where

@@ -1,6 +1,6 @@
 -- The subgames of a game tree. Source: Selten 1965.
-use Rattle.std.specs.Prelude.{ℕ, ◌<◌, ◌≡◌, ◌⊎◌, ◌↔◌, List, Contains, None, Some}
-use Rattle.std.specs.List.Sorted.{IsStrictlyIncreasing}
+use Rattle.std.specs.Prelude.{ℕ, ◌<◌, ◌≡◌, ◌⊎◌, List, None, Some}
+use Rattle.lists.specs.Listed.{AreListed}
 use Rattle.game_theory.specs.OwnSets.{Chooses}
 use Rattle.game_theory.specs.Trees.{Tree, IsWithin}
 
@@ -22,6 +22,5 @@ abbrev pub IsSubgameRoot : Tree → ℕ → Type 0
 IsSubgameRoot t k = (k ≡ 0) ⊎ (BeginsAlone t k × HasWholeSets t k)
 
 -- the nodes at which subgames begin, in ascending order
-pub record AreSubgameRoots (t : Tree) (nodes : List ℕ) : Type 0 where
-  pub ascending : IsStrictlyIncreasing nodes
-  pub are_all : (k : ℕ) → Contains nodes k ↔ ((k < t.size) × IsSubgameRoot t k)
+abbrev pub AreSubgameRoots : Tree → List ℕ → Type 0
+AreSubgameRoots t nodes = AreListed (λ k. (k < t.size) × IsSubgameRoot t k) nodes

@@ -5,9 +5,8 @@ ghost use Rattle.subgames.specs.CutParts.{AreHomesBefore, GoesOnIn, cut_set, is_
 ghost use Rattle.subgames.specs.FoundSubgames.{AreRootMarks, ListCutsBefore};
 
 use crate::members::empty_lists;
-use frac128::Memory;
+use answers::Memory;
 use game_core::Tree;
-use game_core::tree_parts::{parent, set, stands_for_game_tree};
 use std::alloc::Global;
 
 /// Whether a node is an end of the cut at a root with given payoffs.
@@ -31,7 +30,7 @@ pub(crate) fn cut_set(tree: &Tree, begins: &[bool], root: u32, node: usize) -> O
     if is_given_end(begins, root, node) {
         None
     } else {
-        set(tree, node)
+        tree.set_at(node)
     }
 }
 
@@ -42,11 +41,11 @@ fn home(tree: &Tree, begins: &[bool], homes: &[u32], node: usize) -> u32
     requires homes { AreHomesBefore (game_of_tree tree.now) node homes.now }
     ensures { GoesOnIn (game_of_tree tree.now) result node }
 {
-    stands_for_game_tree(tree);
+    tree.stands_for_game_tree();
     if begins[node] {
         node as u32
     } else {
-        homes[parent(tree, node)]
+        homes[tree.parent(node)]
     }
 }
 
@@ -90,10 +89,10 @@ fn list_node(
     ensures { OnOk result (ListCutsBefore (game_of_tree tree.now) (node + 1)
         (map (λ v. v.items) cuts.new.items)) }
 {
-    stands_for_game_tree(tree);
+    tree.stands_for_game_tree();
     list_in(cuts, homes[node], node as u32)?;
     if node != 0 && begins[node] {
-        let above = homes[parent(tree, node)];
+        let above = homes[tree.parent(node)];
         list_in(cuts, above, node as u32)?;
     }
     Ok(())

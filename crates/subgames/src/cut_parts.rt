@@ -5,12 +5,13 @@ ghost use Rattle.std.specs.List.Sorted.{IsStrictlyIncreasing};
 ghost use Rattle.game_theory.specs.OwnSets.{places_with};
 ghost use Rattle.game_core.specs.Tree.{IsBelow};
 ghost use Rattle.game_core.specs.TreeGame.{game_of_tree};
-ghost use Rattle.subgames.specs.CutParts.{AreIndicesIn, IsIndexOf, actions_of, cut_information_set, cut_node, cut_outcome, cut_pays, named_kind, without_name};
+ghost use Rattle.lists.specs.Listed.{IsIndexOf};
+ghost use Rattle.subgames.specs.CutParts.{AreIndicesIn, actions_of, cut_information_set, cut_node, cut_outcome, cut_pays, named_kind, without_name};
 
 use crate::cut_nodes::is_given_end;
 use crate::members::member_lists;
-use frac128::{Frac, Memory};
-use game_core::tree_parts::{branch, owner, parent, pays, stands_for_game_tree};
+use answers::Memory;
+use frac128::Frac;
 use game_core::{Action, InfoSet, Kind, Name, Node, Outcome, Tree};
 use std::alloc::Global;
 
@@ -34,7 +35,7 @@ fn named_kind(tree: &Tree, sets: &[u32], name: Option<u32>) -> Kind
     let Some(set) = name else {
         return Kind::End;
     };
-    match owner(tree, sets[set as usize] as usize) {
+    match tree.owner(sets[set as usize] as usize) {
         Some(player) => Kind::Move { player },
         None => Kind::Chance,
     }
@@ -46,8 +47,8 @@ fn node_before(tree: &Tree, node: usize) -> usize
     ensures is { result ≡ (game_of_tree tree.now).parent node }
     ensures within { result < length tree.now.nodes }
 {
-    stands_for_game_tree(tree);
-    parent(tree, node)
+    tree.stands_for_game_tree();
+    tree.parent(node)
 }
 
 // The index of a node among these, and nothing where it does not stand there.
@@ -75,7 +76,7 @@ fn cut_node(tree: &Tree, nodes: &[u32], sets: &[u32], names: &[Option<u32>], num
         → AreIndicesIn nodes.now (length tree.now.nodes) indices
         → result ≡ cut_node (game_of_tree tree.now) nodes.now indices sets.now names.now number }
 {
-    stands_for_game_tree(tree);
+    tree.stands_for_game_tree();
     let node = nodes[number as usize] as usize;
     let set = names[number as usize];
     let kind = named_kind(tree, sets, set);
@@ -93,7 +94,7 @@ fn cut_node(tree: &Tree, nodes: &[u32], sets: &[u32], names: &[Option<u32>], num
     Node {
         kind,
         parent,
-        branch: branch(tree, node),
+        branch: tree.branch(node),
         set,
         outcome,
     }
@@ -118,7 +119,7 @@ pub(crate) fn made_nodes(
         → made.items ≡ map (cut_node (game_of_tree tree.now) nodes.now indices sets.now names.now)
         (range_with_len 0 (length nodes.now))) }
 {
-    stands_for_game_tree(tree);
+    tree.stands_for_game_tree();
     let mut made = Vec::with_capacity(alloc, nodes.len())?;
     for number in 0..nodes.len() {
         let node = cut_node(tree, nodes, sets, names, number as u32);
@@ -161,7 +162,7 @@ fn made_set(
     let actions = made_actions(alloc, tree.sets()[set].actions())?;
     let label = tree.sets()[set].label();
     let name = Name::new(Vec::new(alloc));
-    Ok(InfoSet::new(owner(tree, set), label, name, actions, members))
+    Ok(InfoSet::new(tree.owner(set), label, name, actions, members))
 }
 
 /// The sets of the cut in order.
@@ -206,7 +207,7 @@ fn cut_pays(
     if is_given_end(begins, root, node) {
         worth[node * tree.players().len() + player]
     } else {
-        pays(tree, node, player)
+        tree.pays(node, player)
     }
 }
 

@@ -4,9 +4,8 @@ ghost use Rattle.game_core.specs.TreeGame.{game_of_tree};
 ghost use Rattle.subgames.specs.CutParts.{AreSetNames, HasNumber, cut_set};
 
 use crate::cut_nodes::cut_set;
-use frac128::Memory;
+use answers::Memory;
 use game_core::Tree;
-use game_core::tree_parts::stands_for_game_tree;
 use indexmap::IndexSet;
 use std::alloc::Global;
 
@@ -35,7 +34,7 @@ pub(crate) fn cut_sets(
         (map (cut_set (game_of_tree tree.now) begins.now root) nodes.now)
         it.1.items it.0.items) }
 {
-    stands_for_game_tree(tree);
+    tree.stands_for_game_tree();
     let mut sets = IndexSet::new(alloc);
     let mut names = Vec::with_capacity(alloc, nodes.len())?;
     for node in nodes {

@@ -5,8 +5,8 @@ use crate::cut_nodes::cut_lists;
 use crate::cut_parts::{empty_names, made_nodes, made_outcomes, made_sets};
 use crate::cut_sets::cut_sets;
 use crate::roots::root_marks;
-use frac128::{Frac, Memory};
-use game_core::tree_parts::stands_for_game_tree;
+use answers::Memory;
+use frac128::Frac;
 use game_core::{Name, Tree};
 use std::alloc::Global;
 use std::marker::Model;
@@ -124,7 +124,7 @@ impl Subgames {
         ensures { IfOk result (λ cut. IsCutAt tree.now root
             (worth_at (length tree.now.players) worth.now) cut.nodes cut.sets cut.tree) }
     {
-        stands_for_game_tree(tree);
+        tree.stands_for_game_tree();
         let begins = self.begins.as_slice();
         let nodes = self.cuts[root as usize].as_slice().to_vec(alloc)?;
         let cut = nodes.as_slice();

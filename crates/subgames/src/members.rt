@@ -3,7 +3,7 @@ ghost use Rattle.std.specs.Prelude.{◌≡◌, ◌<◌, ◌^◌, All, IfOk, [], 
 ghost use Rattle.game_core.specs.Tree.{IsBelow};
 ghost use Rattle.subgames.specs.CutParts.{AreMemberLists};
 
-use frac128::Memory;
+use answers::Memory;
 use std::alloc::Global;
 
 /// So many empty lists.

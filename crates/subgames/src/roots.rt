@@ -5,9 +5,8 @@ ghost use Rattle.subgames.specs.Spans.{AreOwnSpans, AreSpans, IsOwnSpan};
 ghost use Rattle.subgames.specs.FoundSubgames.{AreRootMarks};
 ghost use Rattle.subgames.specs.Roots.{AreSubgameRoots, BeginsAlone, HasWholeSets, IsSubgameRoot};
 
-use frac128::Memory;
+use answers::Memory;
 use game_core::Tree;
-use game_core::tree_parts::{choice_at, owner, parent, set, stands_for_game_tree};
 use std::alloc::Global;
 
 // How far a node's subtree reaches, and the players' sets of the nodes in it. A node without a
@@ -40,9 +39,9 @@ fn own_span(tree: &Tree, node: usize) -> Span
     requires { node < length tree.now.nodes }
     ensures { IsOwnSpan (game_of_tree tree.now) node result }
 {
-    stands_for_game_tree(tree);
+    tree.stands_for_game_tree();
     let last = node as u32;
-    match choice_at(tree, node) {
+    match tree.choice_at(node) {
         Some((_, set)) => {
             let members = tree.sets()[set as usize].members();
             Span {
@@ -76,10 +75,10 @@ fn own_spans(alloc: Global, tree: &Tree) -> Result<Vec<Span>, Memory>
 fn subtree_spans(alloc: Global, tree: &Tree) -> Result<Vec<Span>, Memory>
     ensures { IfOk result (λ spans. AreSpans (game_of_tree tree.now) spans.items) }
 {
-    stands_for_game_tree(tree);
+    tree.stands_for_game_tree();
     let mut spans = own_spans(alloc, tree)?;
     for node in (1..tree.nodes().len()).rev() {
-        let above = parent(tree, node);
+        let above = tree.parent(node);
         spans[above] = joined(spans[above], spans[node]);
     }
     Ok(spans)
@@ -91,7 +90,7 @@ fn has_whole_sets(tree: &Tree, spans: &[Span], node: usize) -> bool
     requires spans { AreSpans (game_of_tree tree.now) spans.now }
     ensures { IsTrue result ↔ HasWholeSets (game_of_tree tree.now) node }
 {
-    stands_for_game_tree(tree);
+    tree.stands_for_game_tree();
     let span = spans[node];
     span.least as usize >= node && span.greatest <= span.last
 }
@@ -101,11 +100,11 @@ fn begins_alone(tree: &Tree, node: usize) -> bool
     requires { node < length tree.now.nodes }
     ensures { IsTrue result ↔ BeginsAlone (game_of_tree tree.now) node }
 {
-    stands_for_game_tree(tree);
-    match set(tree, node) {
+    tree.stands_for_game_tree();
+    match tree.set_at(node) {
         Some(set) => {
             let set = set as usize;
-            owner(tree, set).is_none() || tree.sets()[set].members().len() == 1
+            tree.owner(set).is_none() || tree.sets()[set].members().len() == 1
         }
         None => false,
     }
@@ -124,7 +123,7 @@ fn is_subgame_root(tree: &Tree, spans: &[Span], node: usize) -> bool
 pub(crate) fn root_marks(alloc: Global, tree: &Tree) -> Result<Vec<bool>, Memory>
     ensures { IfOk result (λ begins. AreRootMarks (game_of_tree tree.now) begins.items) }
 {
-    stands_for_game_tree(tree);
+    tree.stands_for_game_tree();
     let spans = subtree_spans(alloc, tree)?;
     let mut begins = Vec::with_capacity(alloc, tree.nodes().len())?;
     for node in 0..tree.nodes().len() {
@@ -142,7 +141,7 @@ pub(crate) fn root_marks(alloc: Global, tree: &Tree) -> Result<Vec<bool>, Memory
 pub fn subgame_roots(alloc: Global, tree: &Tree) -> Result<Vec<u32>, Memory>
     ensures { IfOk result (λ roots. AreSubgameRoots (game_of_tree tree.now) roots.items) }
 {
-    stands_for_game_tree(tree);
+    tree.stands_for_game_tree();
     let begins = root_marks(alloc, tree)?;
     let mut roots = Vec::new(alloc);
     for node in 0..tree.nodes().len() {

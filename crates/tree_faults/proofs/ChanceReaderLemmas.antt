@@ -29,7 +29,7 @@ use Rattle.file_parts.proofs.PartReaderLemmas.{no_empty}
 
 -- ---- sums
 -- a sum that was reached
-record IsReached (sum : ℚ) : Type 0 where
+record IsRowEquivalent (sum : ℚ) : Type 0 where
   pub not_negative : zero_ℚ ≤ℚ sum
   pub within : sum ≤ℚ one_ℚ
   pub fits : sum.den < 2 ^ 127
@@ -68,7 +68,7 @@ comes set sum prob p f e =
     rw (a, b, c) (ap (λ (x : ℚ). Ok x) e)
 
 -- the next sum is reached
-next_reached : (set : ℕ) (sum prob next : ℚ) → IsReached sum → sum_with set sum prob ≡ Ok next → IsReached next
+next_reached : (set : ℕ) (sum prob next : ℚ) → IsRowEquivalent sum → sum_with set sum prob ≡ Ok next → IsRowEquivalent next
 next_reached set sum prob next r e =
     let m = may_come set sum prob next e in
     let up : sum ≤ℚ (sum +ℚ prob) = subst (λ (x : ℚ). x ≤ℚ (sum +ℚ prob)) (+ℚ-zero sum) (le-add_left sum zero_ℚ prob m.not_negative) in
@@ -78,11 +78,11 @@ next_reached set sum prob next r e =
       fits = subst (λ (x : ℚ). x.den < 2 ^ 127) (sym m.is) m.fits.den;
     }
 
-zero_reached : IsReached zero_ℚ
+zero_reached : IsRowEquivalent zero_ℚ
 zero_reached = record { not_negative = le_refl zero_ℚ; within = (frac-le (pos 0) (pos 1) 1 1 (omega arith) (omega arith)).1 (omega (arith, ints)); fits = subst (λ m. m < 2 ^ 127) (sym zero-den) (lit< tt) }
 
 -- what is left to 1
-left : (sum : ℚ) → IsReached sum → Rest sum
+left : (sum : ℚ) → IsRowEquivalent sum → Rest sum
 left sum r = goes_to_one sum r.not_negative r.within r.fits
 
 -- ---- the list
@@ -132,7 +132,7 @@ at_brace f set count sum = elim (cases_Bool (nat_le 1 (count + 0))) [
 ]
 
 -- an action more, up to the sum 1
-with_rest : {X : Type 0} (f : List Action → X) (set count : ℕ) (sum : ℚ) (r : IsReached sum) (name : List ℕ) (rest : List Token)
+with_rest : {X : Type 0} (f : List Action → X) (set count : ℕ) (sum : ℚ) (r : IsRowEquivalent sum) (name : List ℕ) (rest : List Token)
     → closed_chances f set count sum (Text name ∷ Number (left sum r).rest ∷ Right ∷ rest) ≡ Ok (f (record { name = name; prob = (left sum r).rest } ∷ []), rest)
 with_rest f set count sum r name rest =
     let l = left sum r in
@@ -157,7 +157,7 @@ closed_reads f set count sum (Text name ∷ r) x rest e = absurd (ok_err (x, res
 closed_reads f set count sum tokens x rest e = absurd (ok_err (x, rest) (Node, tokens) (sym e))
 
 -- where reading stops before this token
-stuck_first : {X : Type 0} (f : List Action → X) (set count : ℕ) (sum : ℚ) (r : IsReached sum) (t : Token) (rest : List Token) (kind : EfgKind) → ((more : List Token) → closed_chances f set count sum (t ∷ more) ≡ Err (kind, t ∷ more)) → IsStuck (closed_chances f set count sum) (t ∷ rest) kind (t ∷ rest)
+stuck_first : {X : Type 0} (f : List Action → X) (set count : ℕ) (sum : ℚ) (r : IsRowEquivalent sum) (t : Token) (rest : List Token) (kind : EfgKind) → ((more : List Token) → closed_chances f set count sum (t ∷ more) ≡ Err (kind, t ∷ more)) → IsStuck (closed_chances f set count sum) (t ∷ rest) kind (t ∷ rest)
 stuck_first f set count sum r t rest kind h = record {
   before = [];
   is = refl;
@@ -169,7 +169,7 @@ stuck_first f set count sum r t rest kind h = record {
 }
 
 -- where reading stops after a name
-stuck_second : {X : Type 0} (f : List Action → X) (set count : ℕ) (sum : ℚ) (r : IsReached sum) (name : List ℕ) (t : Token) (rest : List Token) (kind : EfgKind) → ((more : List Token) → closed_chances f set count sum (Text name ∷ t ∷ more) ≡ Err (kind, t ∷ more)) → IsStuck (closed_chances f set count sum) (Text name ∷ t ∷ rest) kind (t ∷ rest)
+stuck_second : {X : Type 0} (f : List Action → X) (set count : ℕ) (sum : ℚ) (r : IsRowEquivalent sum) (name : List ℕ) (t : Token) (rest : List Token) (kind : EfgKind) → ((more : List Token) → closed_chances f set count sum (Text name ∷ t ∷ more) ≡ Err (kind, t ∷ more)) → IsStuck (closed_chances f set count sum) (Text name ∷ t ∷ rest) kind (t ∷ rest)
 stuck_second f set count sum r name t rest kind h = record {
   before = Text name ∷ [];
   is = refl;
@@ -180,7 +180,7 @@ stuck_second f set count sum r name t rest kind h = record {
   goes_on = with_rest f set count sum r name;
 }
 
-closed_sticks : {X : Type 0} (f : List Action → X) (set count : ℕ) (sum : ℚ) (r : IsReached sum) (tokens : List Token) (fault : EfgKind × List Token) → closed_chances f set count sum tokens ≡ Err fault → IsStuck (closed_chances f set count sum) tokens fault.0 fault.1
+closed_sticks : {X : Type 0} (f : List Action → X) (set count : ℕ) (sum : ℚ) (r : IsRowEquivalent sum) (tokens : List Token) (fault : EfgKind × List Token) → closed_chances f set count sum tokens ≡ Err fault → IsStuck (closed_chances f set count sum) tokens fault.0 fault.1
 unfolding closed_chances
 closed_sticks f set count sum r [] fault e =
     stuck_by (closed_chances f set count sum) [] Node [] fault e (record { before = []; is = refl; stays = λ u s more g. absurd (no_empty u s g); next = Text []; more = Number (left sum r).rest ∷ Right ∷ []; value = f (record { name = []; prob = (left sum r).rest } ∷ []); goes_on = with_rest f set count sum r [] })
@@ -210,7 +210,7 @@ closed_sticks f set count sum r (Text name ∷ t ∷ rest) fault e = stuck_by (c
 closed_sticks f set count sum r (t ∷ rest) fault e = stuck_by (closed_chances f set count sum) (t ∷ rest) Node (t ∷ rest) fault e (stuck_first f set count sum r t rest Node (λ more. refl))
 
 -- actions of chance and the brace that closes them
-closed_reader : {X : Type 0} (f : List Action → X) (set count : ℕ) (sum : ℚ) → IsReached sum → IsReader (closed_chances f set count sum)
+closed_reader : {X : Type 0} (f : List Action → X) (set count : ℕ) (sum : ℚ) → IsRowEquivalent sum → IsReader (closed_chances f set count sum)
 closed_reader f set count sum r = record {
   some = record { sample = Text [] ∷ Number (left sum r).rest ∷ Right ∷ []; value = f (record { name = []; prob = (left sum r).rest } ∷ []); is_sample = with_rest f set count sum r [] };
   at = λ tokens. record { reads = closed_reads f set count sum tokens; sticks = λ kind rest e. closed_sticks f set count sum r tokens (kind, rest) e };

@@ -10,9 +10,9 @@ ghost use Rattle.tree_grammar.specs.TreeParsing.{own_action, sum_with, parse_cha
 ghost use Rattle.tree_grammar.specs.declared.kinds.EfgKind.TheVariants.{Node, SetMismatch};
 
 use crate::kinds::EfgKind;
-use file_parts::{PartStop, closing_brace, copied, number, opening_brace, text, unexpected};
+use file_parts::{PartStop, closing_brace, number, opening_brace, text, unexpected};
 use frac128::Frac;
-use game_core::{Action, Spanned};
+use game_core::{Action, Spanned, copied};
 use std::alloc::Global;
 use std::cmp::Ordering;
 
@@ -91,7 +91,7 @@ fn closed(tokens: &[Spanned], count: usize) -> Result<&[Spanned], PartStop<EfgKi
 
 /// The actions of a set at its first use, and the tokens after them. The set has this number.
 #[tactic(auto, using(crate::proofs::ActionStepLemmas::list_steps))]
-pub fn first_list(
+pub(crate) fn first_list(
     alloc: Global,
     tokens: &[Spanned],
     owner: Option<u32>,
@@ -173,7 +173,7 @@ fn all_repeated<'a>(
 
 /// The tokens after the actions of a later use, which may come, and repeat these.
 #[tactic(auto, using(file_parts::proofs::ParseLemmas::refused_first), unfolding(crate::specs::TreeParsing::parse_repeated_list))]
-pub fn later_list<'a>(
+pub(crate) fn later_list<'a>(
     tokens: &'a [Spanned],
     owner: Option<u32>,
     actions: &[Action],

@@ -4,8 +4,8 @@ ghost use Rattle.file_parts.specs.Parsing.{Parses};
 ghost use Rattle.tree_grammar.specs.TreeParsing.{parse_front};
 
 use crate::kinds::EfgKind;
-use file_parts::{PartStop, after_text, copied, names, title};
-use game_core::{Name, Spanned};
+use file_parts::{PartStop, after_text, names, title};
+use game_core::{Name, Spanned, copied};
 use std::alloc::Global;
 
 /// What a file says before its nodes: the title and the players.

@@ -14,7 +14,7 @@ use game_core::Spanned;
 
 /// A number of at least 1, and the tokens after it.
 #[tactic(auto, using(crate::proofs::LabelLemmas::positives))]
-pub fn positive(tokens: &[Spanned]) -> Option<(u64, &[Spanned])>
+pub(crate) fn positive(tokens: &[Spanned]) -> Option<(u64, &[Spanned])>
     requires short { AllByRecursion IsShortToken (bare tokens.now) }
     ensures { GivesReading (λ x. (x.0, bare x.1.now)) result (count_at (bare tokens.now)) }
 {

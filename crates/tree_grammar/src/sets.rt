@@ -13,8 +13,8 @@ ghost use Rattle.std.specs.Option.{option_or, unwrap_or};
 use crate::actions::{first_list, later_list};
 use crate::kinds::EfgKind;
 use crate::pieces::positive;
-use file_parts::{PartStop, copied, optional_text, unexpected};
-use game_core::{Action, InfoSet, Name, Spanned};
+use file_parts::{PartStop, optional_text, unexpected};
+use game_core::{Action, InfoSet, Name, Spanned, copied};
 use indexmap::IndexSet;
 use std::alloc::{AllocError, AllocFailed, Global};
 use std::marker::Model;
@@ -111,7 +111,7 @@ impl Sets {
 }
 
 /// The name that came, and else the empty one.
-pub fn or_empty(alloc: Global, name: Option<Name>) -> Name
+pub(crate) fn or_empty(alloc: Global, name: Option<Name>) -> Name
     ensures { result ≡ unwrap_or name [] }
 {
     match name {
@@ -121,7 +121,7 @@ pub fn or_empty(alloc: Global, name: Option<Name>) -> Name
 }
 
 /// A name of its own, where one came.
-pub fn optional_name(alloc: Global, name: Option<&Name>) -> Result<Option<Name>, AllocError>
+pub(crate) fn optional_name(alloc: Global, name: Option<&Name>) -> Result<Option<Name>, AllocError>
     ensures { IfOk result (λ copy. copy ≡ option_map (λ t. t.now) name.entry) }
 {
     match name {

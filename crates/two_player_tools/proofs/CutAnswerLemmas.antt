@@ -11,7 +11,7 @@ use Rattle.game_core.specs.declared.game.Game.TheVariants.{Extensive}
 use Rattle.behaviour_profile.specs.Plans.{plan_behaviour}
 use Rattle.behaviour_profile.proofs.PlanStopLemmas.{plan_behaviour-single}
 use Rattle.verdicts.specs.TreeSteps.{now_steps_at}
-use Rattle.verdicts.specs.declared.payoffs.PayoffsStop.TheVariants as payoffs_stop
+use Rattle.pure_payoffs.specs.declared.stop.PayoffStop.TheVariants as payoffs_stop
 use Rattle.verdicts.proofs.AlikeBehaviourLemmas.{behaviour_payoffs-alike}
 use Rattle.verdicts.proofs.SameEntryLemmas.{entries-alike}
 use Rattle.sequence_data.specs.Data.{FormData, IsFormData}

@@ -42,7 +42,7 @@ set-stands t n worth nodes sets cut h r below =
     let k = get_or nodes used.0 0 in
     let node = g.same_nodes used.0 used.1 in
     let own : ¬ (IsSubgameRoot (game_of_tree t) k × (k ≡ n → ⊥)) = λ given. none-some r (sym (node.given given).0 ∙ used.2) in
-    (k, (g.are_nodes k).0 (Contains-get_or nodes used.0 0 (omega (arith, used.1, g.size))), own, named ((game_of_tree t).set k) (subst (IsSameSet sets ((game_of_tree t).set k)) used.2 (node.own own).0))
+    (k, g.are_nodes.sound k (Contains-get_or nodes used.0 0 (omega (arith, used.1, g.size))), own, named ((game_of_tree t).set k) (subst (IsSameSet sets ((game_of_tree t).set k)) used.2 (node.own own).0))
   where
     named : (o : Option ℕ) → IsSameSet sets o (Some r) → o ≡ Some (get_or sets r 0)
     named None same = absurd same

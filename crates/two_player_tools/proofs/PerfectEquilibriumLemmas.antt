@@ -87,17 +87,17 @@ module _ (method : Method) (t : GameTree) (law : SetsStandInOneCut) (laws : Tree
 
   -- the behaviour is valid
   valid : IsValid (game_of_tree t) b
-  valid = record {
-    not_negative = λ s i a below owned action. elim (le_or_lt zero_ℚ (b s a)) [
+  valid s i below owned = record {
+    not_negative = λ a action. elim (le_or_lt zero_ℚ (b s a)) [
       | inl least ↦ least
       | inr less ↦ absurd (at_set s (λ m s. (game_of_tree t).owner s ≡ Some i → a < m → zero_ℚ ≤ℚ b s a) below
-          (λ n inside root r few owner own among. (cut-equilibrium n inside root).valid.not_negative r i a few (owner ∙ own) among)
+          (λ n inside root r few owner own among. ((cut-equilibrium n inside root).valid r i few (owner ∙ own)).not_negative a among)
           (λ fits. not_lt_of_le zero_ℚ (b s a) (fits owned action) less))
     ];
-    sum_is_one = λ s i below owned. elim (eq_or_ne (sum_to ((game_of_tree t).actions s) (b s)) one_ℚ) [
+    sum_is_one = elim (eq_or_ne (sum_to ((game_of_tree t).actions s) (b s)) one_ℚ) [
       | inl same ↦ same
       | inr apart ↦ absurd (at_set s (λ m s. (game_of_tree t).owner s ≡ Some i → sum_to m (b s) ≡ one_ℚ) below
-          (λ n inside root r few owner own. (cut-equilibrium n inside root).valid.sum_is_one r i few (owner ∙ own))
+          (λ n inside root r few owner own. ((cut-equilibrium n inside root).valid r i few (owner ∙ own)).sum_is_one)
           (λ sums. apart (sums owned)))
     ];
   }

@@ -34,7 +34,7 @@ set-named sets s (Some r) h = (r, h.0, h.1)
 -- a set that stands in a cut is one of its sets
 pub set-in_cut : (t : Tree) (n : ℕ) (worth : ℕ → ℕ → ℚ) (nodes sets : List ℕ) (c : Tree) (s : ℕ) → IsCutGame t n worth nodes sets c → StandsInCut t n s → (r : ℕ) × (r < c.sets) × (get_or sets r 0 ≡ s)
 set-in_cut t n worth nodes sets c s g stands =
-    let found = (g.are_nodes stands.0).1 stands.1 in
+    let found = g.are_nodes.complete stands.0 stands.1 in
     let is : get_or nodes found.0 0 ≡ stands.0 = get_or_default nodes found.0 0 stands.0 found.1 ∙ found.2 in
     let node = g.same_nodes found.0 (omega (arith, found.1, g.size)) in
     let own = (node.own (λ given. stands.2 (subst (IsGivenEnd t n) is given))).0 in

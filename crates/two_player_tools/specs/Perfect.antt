@@ -19,8 +19,8 @@ use Rattle.subgames.specs.CutTrees.{IsCutAt}
 use Rattle.subgames.specs.MadeCuts.{MadeCut}
 use Rattle.subgames.specs.Roots.{IsSubgameRoot}
 use Rattle.verdicts.specs.BehaviourPayoffs.{behaviour_payoffs_fit}
-use Rattle.verdicts.specs.declared.payoffs.PayoffsStop.{PayoffsStop}
-use Rattle.verdicts.specs.declared.payoffs.PayoffsStop.TheVariants as payoffs_stop
+use Rattle.pure_payoffs.specs.declared.stop.PayoffStop.{PayoffStop}
+use Rattle.pure_payoffs.specs.declared.stop.PayoffStop.TheVariants as payoffs_stop
 use Rattle.sequence_data.specs.PlanPairs.{PlanPair}
 use Rattle.refusals.specs.Told.{behaviour_refusal, recall_refusal}
 use Rattle.refusals.specs.declared.refusal.Refusal.{Refusal}
@@ -62,14 +62,14 @@ in_subgame n nodes (refusal.NotConstant sums) =
 in_subgame n nodes r = r
 
 -- why what node n is worth to the players is not computed
-abbrev pub worth_refusal : ℕ → PayoffsStop → Refusal
+abbrev pub worth_refusal : ℕ → PayoffStop → Refusal
 worth_refusal n (payoffs_stop.Range player step) =
     refusal.SubgameRange n (site.PlayerValue player) step
 worth_refusal n payoffs_stop.Memory = refusal.Memory
 
 -- ---- cuts
 -- the steps of what behaviour with these entries pays fit; or the first that does not, with its player
-abbrev pub entry_payoffs_fit : GameTree → List ℚ → Answer PayoffsStop (Unit {0})
+abbrev pub entry_payoffs_fit : GameTree → List ℚ → Answer PayoffStop (Unit {0})
 entry_payoffs_fit t entries answer =
     (b : Behaviour) × (entries ≡ tree_entries (game_of_tree t) b)
     × behaviour_payoffs_fit (game_of_tree t) b answer

@@ -10,12 +10,13 @@ ghost use Rattle.sequence_form.specs.Forms.{tree_form};
 ghost use Rattle.two_player_tools.specs.Entries.{plans_line};
 ghost use Rattle.two_player_tools.specs.TwoPlayers.{HasForm};
 
+use answers::Memory;
 use behaviour_profile::Behaviour;
-use frac128::{Frac, Memory};
+use frac128::Frac;
 use game_core::{Game, Tree};
 use ne_printer::line;
 use refusals::Refusal;
-use sequence_form::SeqForm;
+use sequence_data::SeqForm;
 use std::alloc::Global;
 
 // The weights of all sequences but the empty one, which are those of the strategies.
@@ -77,7 +78,7 @@ fn behaviour_line(
 }
 
 /// The line of two plans: the strategies' weights, or on a tree the behaviour of the plans.
-pub fn plans_line(
+pub(crate) fn plans_line(
     alloc: Global,
     strategic: bool,
     game: &Game,

@@ -11,9 +11,8 @@ use game_core::{Game, MOST_ROWS, Table, TooLarge, Tree, What};
 use perfect_recall::{Recall, find_recall};
 use reduced_form::reduce;
 use refusals::Refusal;
-use sequence_form::{
-    Counts, SeqForm, build, build_table, counts_table, counts_tree, program_size, rows,
-};
+use sequence_data::SeqForm;
+use sequence_form::{Counts, build, build_table, counts_table, counts_tree, program_size, rows};
 use std::alloc::Global;
 
 /// How a sequence form is solved: by its linear program, or by its complementarity problem.
@@ -106,7 +105,7 @@ pub(crate) fn form_of_tree(alloc: Global, method: Method, tree: &Tree) -> Result
 
 /// The sequence form of a game, where the rows that the method counts are within the limit: of a
 /// tree by its own sequences, or by its reduced strategies.
-pub fn form_in(
+pub(crate) fn form_in(
     alloc: Global,
     method: Method,
     strategic: bool,

@@ -13,7 +13,7 @@ use crate::perfect::perfect_text;
 use crate::pivoting::equilibrium_in;
 use game_core::{Game, sets_are_numbered_by_first_nodes, trees_are_game_trees};
 use refusals::Refusal;
-use sequence_form::SeqForm;
+use sequence_data::SeqForm;
 use std::alloc::Global;
 use subgames::sets_stand_in_one_cut;
 

@@ -47,17 +47,18 @@ use crate::entries::plan_behaviour;
 use crate::forms::{Method, form_of_tree, two_players_of};
 use crate::pivoting::equilibrium_in;
 use crate::solving::solve;
+use answers::Memory;
 use behaviour_profile::{Behaviour, starts_of};
-use frac128::{Frac, Memory};
-use game_core::tree_parts::{action_count, owner, stands_for_game_tree};
+use frac128::Frac;
 use game_core::{Tree, trees_are_game_trees};
 use ne_printer::line;
 use perfect_recall::find_recall;
+use pure_payoffs::PayoffStop;
 use refusals::{Refusal, Site};
-use sequence_form::SeqForm;
+use sequence_data::SeqForm;
 use std::alloc::Global;
 use subgames::{Cut, Subgames, sets_stand_in_one_cut};
-use verdicts::{PayoffsStop, behaviour_payoffs};
+use verdicts::behaviour_payoffs;
 use zero_sum_lp::NotConstant;
 
 /// What is known once the cuts at some of the nodes where subgames begin are solved.
@@ -170,12 +171,12 @@ fn payoffs_of(
 {
     match behaviour_payoffs(alloc, cut, behaviour) {
         Ok(payoffs) => Ok(payoffs),
-        Err(PayoffsStop::Range { player, unfit }) => Err(Refusal::SubgameRange {
+        Err(PayoffStop::Range { player, unfit }) => Err(Refusal::SubgameRange {
             node: root,
             site: Site::PlayerValue { player },
             unfit,
         }),
-        Err(PayoffsStop::Memory) => Err(Refusal::Memory),
+        Err(PayoffStop::Memory) => Err(Refusal::Memory),
     }
 }
 
@@ -238,7 +239,7 @@ fn keep_lists(
     let tree = cut.tree();
     let starts = starts_of(alloc, tree)?;
     for set in 0..tree.sets().len() {
-        if owner(tree, set).is_some() {
+        if tree.owner(set).is_some() {
             let number = cut.sets()[set] as usize;
             let probabilities = behaviour.at_set(tree, &starts, set as u32);
             lists[number].as_mut_slice().copy_from_slice(probabilities);
@@ -266,7 +267,7 @@ fn solve_and_keep(
     ensures stops { IfErr result (λ r. (r ≡ Refusal.Memory)
         ⊎ IsStoppedAt method tree.now (worth_in tree.now known.old) root r) }
 {
-    stands_for_game_tree(tree);
+    tree.stands_for_game_tree();
     trees_are_game_trees();
     sets_stand_in_one_cut();
     let solved = solve_cut(alloc, method, root, cut)?;
@@ -304,7 +305,7 @@ fn room_for_lists(alloc: Global, tree: &Tree) -> Result<Vec<Vec<Frac>>, Memory>
 {
     let mut lists = Vec::with_capacity(alloc, tree.sets().len())?;
     for set in 0..tree.sets().len() {
-        lists.push(vec![in alloc; Frac::zero(); action_count(tree, set)]?)?;
+        lists.push(vec![in alloc; Frac::zero(); tree.action_count(set)]?)?;
     }
     Ok(lists)
 }
@@ -314,7 +315,7 @@ fn known_of(alloc: Global, tree: &Tree) -> Result<Known, Memory>
     requires two { length tree.now.players ≡ 2 }
     ensures { IfOk result (IsRoomFor tree.now) }
 {
-    stands_for_game_tree(tree);
+    tree.stands_for_game_tree();
     let worth = vec![in alloc; Frac::zero(); tree.nodes().len() * tree.players().len()]?;
     let lists = room_for_lists(alloc, tree)?;
     Ok(Known { worth, lists })

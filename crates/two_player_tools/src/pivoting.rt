@@ -7,12 +7,12 @@ ghost use Rattle.two_player_tools.specs.Lcp.{equilibrium_in};
 use lemke_pivot::{Lcp, Solution, problem};
 use lex_tableau::{PivotCount, UnfitPivot};
 use refusals::Refusal;
-use sequence_form::{Plans, SeqForm};
+use sequence_data::{Plans, SeqForm};
 use std::alloc::Global;
 use std::marker::Brand;
 use std::sync::ledger::{Blank, Ledger};
 
-// The end of a problem's path, whose steps are counted on a blank. The count is not used.
+// The end of a problem's path, whose pivots are counted on a blank. The count is not used.
 fn follow<L: Ledger>(lcp: Lcp, blank: Blank) -> Result<Solution, UnfitPivot>
     requires { (L.parts ≡ blank.parts) × (L.name ≡ blank.name) × (0 < blank.parts) }
     ensures { solved_in lcp result }
@@ -29,7 +29,7 @@ fn solved_in(lcp: Lcp) -> Result<Solution, UnfitPivot>
 }
 
 /// The plans of a form in equilibrium.
-pub fn equilibrium_in(alloc: Global, form: &SeqForm) -> Result<Plans, Refusal>
+pub(crate) fn equilibrium_in(alloc: Global, form: &SeqForm) -> Result<Plans, Refusal>
     ensures answer { Gives Refusal.Memory (equilibrium_in form.now) result }
     ensures one { IfOk result (λ plans. length plans.one ≡ form.now.first.sequences) }
     ensures two { IfOk result (λ plans. length plans.two ≡ form.now.second.sequences) }

@@ -10,10 +10,11 @@ ghost use Rattle.two_player_tools.specs.Lp.{prices_in, prices_text};
 ghost use Rattle.two_player_tools.specs.Solved.{HasSizesOf, solution_of};
 
 use crate::solving::Solved;
-use frac128::{Frac, Memory, Op};
+use answers::Memory;
+use frac128::{Frac, Op};
 use ne_printer::push_numbers;
 use refusals::{Refusal, Site};
-use sequence_form::SeqForm;
+use sequence_data::SeqForm;
 use std::alloc::Global;
 use zero_sum_lp::Optimum;
 
@@ -84,7 +85,7 @@ fn prices_text(
 }
 
 /// The lines of a solution's value and prices, where they are asked for.
-pub fn price_lines(
+pub(crate) fn price_lines(
     alloc: Global,
     prices: bool,
     form: &SeqForm,

@@ -7,7 +7,7 @@ ghost use Rattle.two_player_tools.specs.Solved.{HasSizesOf, solution_of};
 
 use lex_tableau::{PivotCount, UnfitPivot};
 use refusals::Refusal;
-use sequence_form::{Plans, SeqForm};
+use sequence_data::{Plans, SeqForm};
 use std::alloc::Global;
 use std::marker::Brand;
 use std::sync::ledger::{Blank, Ledger};
@@ -20,7 +20,7 @@ pub struct Solved {
     pub plans: Plans,
 }
 
-// The end of a program's path, whose steps are counted on a blank. The count is not used.
+// The end of a program's path, whose pivots are counted on a blank. The count is not used.
 fn follow<L: Ledger>(lp: Lp, blank: Blank) -> Result<Optimum, UnfitPivot>
     requires { (L.parts ≡ blank.parts) × (L.name ≡ blank.name) × (0 < blank.parts) }
     ensures { optimum_in lp result }
@@ -37,7 +37,7 @@ fn optimum_in(lp: Lp) -> Result<Optimum, UnfitPivot>
 }
 
 /// The solution of a form.
-pub fn solve(alloc: Global, form: &SeqForm) -> Result<Solved, Refusal>
+pub(crate) fn solve(alloc: Global, form: &SeqForm) -> Result<Solved, Refusal>
     ensures answer { Gives Refusal.Memory (solution_in form.now)
         (map_ok result (solution_of form.now)) }
     ensures sizes { IfOk result (HasSizesOf form.now) }

@@ -32,8 +32,8 @@ use Rattle.pure_payoffs.specs.Steps.{branch_steps, chance_steps}
 use Rattle.behaviour_profile.proofs.BehaviourEntryLemmas.{entries_at-same}
 use Rattle.verdicts.specs.BehaviourPayoffs.{behaviour_payoffs_fit}
 use Rattle.verdicts.specs.TreeSteps.{now_node_steps, now_steps_at, now_steps_to}
-use Rattle.verdicts.specs.declared.payoffs.PayoffsStop.{PayoffsStop}
-use Rattle.verdicts.specs.declared.payoffs.PayoffsStop.TheVariants as stops
+use Rattle.pure_payoffs.specs.declared.stop.PayoffStop.{PayoffStop}
+use Rattle.pure_payoffs.specs.declared.stop.PayoffStop.TheVariants as stops
 
 -- sums of products
 products-alike : (n : ℕ) (p q v u : ℕ → ℚ) → ((a : ℕ) → a < n → p a ≡ q a) → ((a : ℕ) → a < n → v a ≡ u a) → sum_to n (λ a. p a *ℚ v a) ≡ sum_to n (λ a. q a *ℚ u a)
@@ -109,7 +109,7 @@ module _ (t : Tree) (b other : Behaviour) (w : IsTree t) (alike : AreAlike t b o
     now_steps-alike k l = now_below-alike t.size k l
 
   -- what all players are paid has the same answer
-  pub behaviour_payoffs-alike : (answer : Result (Unit {0}) PayoffsStop) → behaviour_payoffs_fit t b answer → behaviour_payoffs_fit t other answer
+  pub behaviour_payoffs-alike : (answer : Result (Unit {0}) PayoffStop) → behaviour_payoffs_fit t b answer → behaviour_payoffs_fit t other answer
   behaviour_payoffs-alike answer h =
       let same : (λ i. now_steps_at t b i 0) ≡ (λ i. now_steps_at t other i 0) = λ j i. now_steps-alike i 0 w.some_node j in
       subst (λ steps. refused_by (λ stop. stops.Range stop.0 stop.1) (all_fit steps (range_with_len 0 t.players)) answer) same h
@@ -136,9 +136,9 @@ best_choices-alike t b other w alike i choice best s l o =
 
 -- where one is valid, so is the other
 valid-alike : (t : Tree) (b other : Behaviour) → AreAlike t b other → IsValid t b → IsValid t other
-valid-alike t b other alike h = record {
-  not_negative = λ s i a l o m. subst (λ x. zero_ℚ ≤ℚ x) (alike s i a l o m) (h.not_negative s i a l o m);
-  sum_is_one = λ s i l o. sym (sum_to-same (t.actions s) (b s) (other s) (λ a m. alike s i a l o m)) ∙ h.sum_is_one s i l o;
+valid-alike t b other alike h s i l o = record {
+  not_negative = λ a m. subst (λ x. zero_ℚ ≤ℚ x) (alike s i a l o m) ((h s i l o).not_negative a m);
+  sum_is_one = sym (sum_to-same (t.actions s) (b s) (other s) (λ a m. alike s i a l o m)) ∙ (h s i l o).sum_is_one;
 }
 
 -- and where one is an equilibrium, so is the other

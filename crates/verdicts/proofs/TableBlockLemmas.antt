@@ -127,7 +127,7 @@ module _ (g : Game) (m : Mixed) (i s : ℕ) (is_player : i < length g.strategies
   n = get_or g.strategies i 0
 
   -- what has been summed, up to before the block that begins at `first`
-  pub record IsReached (value : ℚ) (first : ℕ) : Type 0 where
+  pub record IsRowEquivalent (value : ℚ) (first : ℕ) : Type 0 where
     pub reached : ℕ
     pub within : reached ≤ profile_count g.strategies
     pub following : reached ≤ first
@@ -136,7 +136,7 @@ module _ (g : Game) (m : Mixed) (i s : ℕ) (is_player : i < length g.strategies
     pub gap : (k : ℕ) → reached ≤ k → k < first → get_or (profile_at g.strategies k) i 0 ≢ s
     pub block : (q : ℕ) × (first ≡ d * (n * q + s))
 
-  pub start : (first : ℕ) → first ≡ s * d → IsReached zero_ℚ first
+  pub start : (first : ℕ) → first ≡ s * d → IsRowEquivalent zero_ℚ first
   start first e =
       record {
         reached = 0;
@@ -148,7 +148,7 @@ module _ (g : Game) (m : Mixed) (i s : ℕ) (is_player : i < length g.strategies
         block = (0, omega (arith, e));
       }
 
-  module _ (value : ℚ) (first : ℕ) (h : IsReached value first) where
+  module _ (value : ℚ) (first : ℕ) (h : IsRowEquivalent value first) where
     -- it stays the same up to any number in the gap
     kept : (to : ℕ) → h.reached ≤ to → to ≤ first → (value ≡ value_below g m i s to) × All StepFits (steps_of (steps_at g m i s) 0 to)
     kept to l b =
@@ -179,7 +179,7 @@ module _ (g : Game) (m : Mixed) (i s : ℕ) (is_player : i < length g.strategies
         ∙ (let turn : n * h.block.0 + s ≡ s + n * h.block.0 = omega arith in ap (λ x. x % n) turn) ∙ remainder-of n s h.block.0 is_strategy)
 
     -- one block more
-    pub next : (more : ℚ) → first < profile_count g.strategies → more ≡ value_below g m i s (first + d) → All StepFits (steps_of (steps_at g m i s) first d) → IsReached more (first + d * n)
+    pub next : (more : ℚ) → first < profile_count g.strategies → more ≡ value_below g m i s (first + d) → All StepFits (steps_of (steps_at g m i s) first d) → IsRowEquivalent more (first + d * n)
     next more l e f =
         record {
           reached = first + d;

@@ -5,11 +5,11 @@ use Rattle.frac128.specs.FirstUnfit.{all_fit}
 use Rattle.game_theory.specs.Trees.{Tree}
 use Rattle.game_theory.specs.Behaviour.{Behaviour}
 use Rattle.verdicts.specs.TreeSteps.{now_steps_at}
-use Rattle.verdicts.specs.declared.payoffs.PayoffsStop.{PayoffsStop}
-use Rattle.verdicts.specs.declared.payoffs.PayoffsStop.TheVariants as stops
+use Rattle.pure_payoffs.specs.declared.stop.PayoffStop.{PayoffStop}
+use Rattle.pure_payoffs.specs.declared.stop.PayoffStop.TheVariants as stops
 
 -- the steps of what behaviour pays all players fit; or the first that does not, with its player
-abbrev pub behaviour_payoffs_fit : Tree → Behaviour → Answer PayoffsStop (Unit {0})
+abbrev pub behaviour_payoffs_fit : Tree → Behaviour → Answer PayoffStop (Unit {0})
 behaviour_payoffs_fit t b =
     refused_by (λ stop. stops.Range stop.0 stop.1)
     (all_fit (λ i. now_steps_at t b i 0) (range_with_len 0 t.players))

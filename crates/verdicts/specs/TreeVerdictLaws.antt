@@ -6,7 +6,7 @@ use Rattle.game_theory.specs.Trees.{Tree}
 use Rattle.game_theory.specs.Behaviour.{Behaviour, IsValid, IsChoice, payoff as payoff_of, reply}
 use Rattle.game_theory.specs.TreeEquilibrium.{IsEquilibrium}
 use Rattle.game_theory.specs.OwnSets.{own_sets}
-use Rattle.game_theory.specs.Recall.{HasPerfectRecall}
+use Rattle.game_theory.specs.Recall.{AllRecall}
 use Rattle.game_core.specs.Tree.{GameTree, IsGameTree}
 use Rattle.game_core.specs.TreeGame.{game_of_tree}
 use Rattle.best_replies.specs.Replies.{AreBestChoices, HasBetterReply}
@@ -16,15 +16,11 @@ use Rattle.verdicts.specs.declared.trees.TreeVerdict.TheVariants.{Equilibrium, B
 use Rattle.verdicts.specs.TreeSteps.{player_steps}
 use Rattle.verdicts.specs.TreeVerdicts.{IsTreeVerdict, tree_verdict}
 
--- all players of a tree recall
-abbrev pub AllRecall : GameTree → Type 0
-AllRecall tree = (i : ℕ) → i < length tree.players → HasPerfectRecall (game_of_tree tree) i
-
 -- a tree in which all players recall and entries have at most one verdict, with one reply
 abbrev pub TreeVerdictsAreSingle : Type 0
 TreeVerdictsAreSingle =
     (tree : GameTree) (entries : List ℚ) (verdict other : TreeVerdict) (reply reply' : List ℕ)
-    → IsGameTree tree → AllRecall tree → tree_verdict tree entries verdict reply
+    → IsGameTree tree → AllRecall (game_of_tree tree) → tree_verdict tree entries verdict reply
     → tree_verdict tree entries other reply' → (verdict ≡ other) × (reply ≡ reply')
 
 -- the steps of all players fit, for each player's best choices
@@ -51,14 +47,15 @@ pub record ShowsBetterReply (t : Tree) (b : Behaviour) (player : ℕ) (payoff be
 -- fit, the verdict of equilibrium comes exactly at equilibria.
 pub record TreeVerdictsFindEquilibria : Type 0 where
   pub equilibrium : (tree : GameTree) (b : Behaviour) (actions : List ℕ) → IsGameTree tree
-      → AllRecall tree → IsValid (game_of_tree tree) b
+      → AllRecall (game_of_tree tree) → IsValid (game_of_tree tree) b
       → IsTreeVerdict (game_of_tree tree) b Equilibrium actions
       → IsEquilibrium (game_of_tree tree) b
   pub better : (tree : GameTree) (b : Behaviour) (player : ℕ) (payoff best : ℚ)
-      (actions : List ℕ) → IsGameTree tree → AllRecall tree
+      (actions : List ℕ) → IsGameTree tree → AllRecall (game_of_tree tree)
       → IsTreeVerdict (game_of_tree tree) b (Better player payoff best) actions
       → ShowsBetterReply (game_of_tree tree) b player payoff best actions
   pub exactly : (tree : GameTree) (b : Behaviour) (verdict : TreeVerdict)
-      (actions : List ℕ) → IsGameTree tree → AllRecall tree → IsValid (game_of_tree tree) b
-      → AllPlayersFit (game_of_tree tree) b → IsTreeVerdict (game_of_tree tree) b verdict actions
+      (actions : List ℕ) → IsGameTree tree → AllRecall (game_of_tree tree)
+      → IsValid (game_of_tree tree) b → AllPlayersFit (game_of_tree tree) b
+      → IsTreeVerdict (game_of_tree tree) b verdict actions
       → IsEquilibrium (game_of_tree tree) b ↔ (verdict ≡ Equilibrium)

@@ -27,7 +27,7 @@ mod trees_player;
 mod trees_replies;
 
 pub use mixed::Mixed;
-pub use payoffs::{PayoffsStop, behaviour_payoffs, behaviour_payoffs_are_single};
+pub use payoffs::{behaviour_payoffs, behaviour_payoffs_are_single};
 pub use scratch::Scratch;
 pub use tables::{
     TableVerdict, check_table, table_verdicts_are_single, table_verdicts_find_equilibria,

@@ -11,54 +11,17 @@ ghost use Rattle.verdicts.specs.BehaviourPayoffs.{
 };
 ghost use Rattle.verdicts.specs.TreeBehaviours.{IsPlayedBehaviour, Reads, game_of};
 ghost use Rattle.behaviour_profile.specs.EntryStarts.{AreBehaviourEntries};
-ghost use Rattle.verdicts.specs.declared.payoffs.PayoffsStop.TheVariants as stops;
+ghost use Rattle.pure_payoffs.specs.declared.stop.PayoffStop.TheVariants as stops;
 
 use crate::trees_behaviour::PlayedBehaviour;
 use behaviour_profile::{Behaviour, starts_of};
-use frac128::{Frac, Memory, Unfit};
+use frac128::Frac;
 use game_core::Tree;
-use game_core::tree_parts::stands_for_game_tree;
-use pure_payoffs::children_of_all;
-use std::alloc::{AllocFailed, Global};
-
-/// Why what a behaviour pays was not computed.
-#[derive(Clone, Copy, Debug, PartialEq, Eq)]
-pub enum PayoffsStop {
-    /// A step of a player's payoff does not fit: the first, players in order.
-    Range {
-        /// The player, from 0.
-        player: u32,
-        /// The step.
-        unfit: Unfit,
-    },
-    /// Memory ran out.
-    Memory,
-}
-
-impl From<Memory> for PayoffsStop {
-    ghost use Rattle.std.specs.Prelude.{◌≡◌};
-    ghost use Rattle.verdicts.specs.declared.payoffs.PayoffsStop.TheVariants as stops;
-
-    ghost from_gives = { λ _ e. e ≡ stops.Memory };
-
-    fn from(_memory: Memory) -> PayoffsStop {
-        PayoffsStop::Memory
-    }
-}
-
-impl<T: Drop> From<AllocFailed<T>> for PayoffsStop {
-    ghost use Rattle.std.specs.Prelude.{◌≡◌};
-    ghost use Rattle.verdicts.specs.declared.payoffs.PayoffsStop.TheVariants as stops;
-
-    ghost from_gives = { λ _ e. e ≡ stops.Memory };
-
-    fn from(_refused: AllocFailed<T>) -> PayoffsStop {
-        PayoffsStop::Memory
-    }
-}
+use pure_payoffs::{PayoffStop, children_of_all};
+use std::alloc::Global;
 
 // What a played behaviour pays each player, in order.
-fn payoffs_on(alloc: Global, played: &PlayedBehaviour) -> Result<Vec<Frac>, PayoffsStop>
+fn payoffs_on(alloc: Global, played: &PlayedBehaviour) -> Result<Vec<Frac>, PayoffStop>
     requires played { IsPlayedBehaviour played.now }
     ensures payoffs { (b : TreeBehaviour) → Reads played.now b → let t = game_of played.now in
         IfOk result (λ payoffs. payoffs.items ≡ listed t.players (payoff t b)) }
@@ -66,12 +29,12 @@ fn payoffs_on(alloc: Global, played: &PlayedBehaviour) -> Result<Vec<Frac>, Payo
         → Gives stops.Memory (behaviour_payoffs_fit (game_of played.now) b)
         (map_ok result (λ _. tt)) }
 {
-    stands_for_game_tree(played.tree);
+    played.tree.stands_for_game_tree();
     let mut payoffs = Vec::new(alloc);
     for player in 0..played.tree.players().len() as u32 {
         match played.value(player, 0) {
             Ok(payoff) => payoffs.push(payoff)?,
-            Err(unfit) => return Err(PayoffsStop::Range { player, unfit }),
+            Err(unfit) => return Err(PayoffStop::Range { player, unfit }),
         }
     }
     Ok(payoffs)
@@ -86,7 +49,7 @@ pub fn behaviour_payoffs(
     alloc: Global,
     tree: &Tree,
     behaviour: &Behaviour,
-) -> Result<Vec<Frac>, PayoffsStop>
+) -> Result<Vec<Frac>, PayoffStop>
     requires entries { AreBehaviourEntries tree.now behaviour.now }
     ensures payoffs { (b : TreeBehaviour) → let t = game_of_tree tree.now in
         behaviour.now ≡ tree_entries t b
@@ -95,7 +58,7 @@ pub fn behaviour_payoffs(
         behaviour.now ≡ tree_entries t b
         → Gives stops.Memory (behaviour_payoffs_fit t b) (map_ok result (λ _. tt)) }
 {
-    stands_for_game_tree(tree);
+    tree.stands_for_game_tree();
     let children = children_of_all(alloc, tree)?;
     let starts = starts_of(alloc, tree)?;
     let played = PlayedBehaviour {

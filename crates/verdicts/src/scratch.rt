@@ -4,10 +4,10 @@ ghost use Rattle.game_core.specs.TreeGame.{game_of_tree};
 
 use crate::trees_behaviour::PlayedBehaviour;
 use crate::trees_player::{PlayerPayoffs, check_player, write_reply};
+use answers::Memory;
 use behaviour_profile::starts_of;
-use frac128::{Frac, Memory, Unfit};
+use frac128::{Frac, Unfit};
 use game_core::Tree;
-use game_core::tree_parts::stands_for_game_tree;
 use pure_payoffs::children_of_all;
 use std::alloc::Global;
 
@@ -25,7 +25,7 @@ pub struct Scratch {
     values: Vec<Frac>,
     // For each decided set its action.
     choices: Vec<u32>,
-    // The reply, and after it open branches.
+    // The reply in its first places, as many as `replied` says; what stands after them counts for nothing.
     reply: Vec<u32>,
     // How many sets the reply has.
     replied: usize,
@@ -63,7 +63,7 @@ impl Scratch {
         ensures scratch { IfOk result (IsScratchOf tree.now) }
         ensures reply { IfOk result (λ scratch. reply_of scratch ≡ []) }
     {
-        stands_for_game_tree(tree);
+        tree.stands_for_game_tree();
         let nodes = tree.nodes().len();
         let sets = tree.sets().len();
         Ok(Scratch {
@@ -111,7 +111,7 @@ impl Scratch {
             × AreChosen t player choice (choices_of self.new))
             (IsFirstUnfit (player_steps t b player choice)) }
     {
-        stands_for_game_tree(tree);
+        tree.stands_for_game_tree();
         let played = PlayedBehaviour {
             tree,
             children: self.children.as_slice(),

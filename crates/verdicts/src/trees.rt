@@ -13,7 +13,6 @@ use crate::scratch::Scratch;
 use crate::trees_player::PlayerPayoffs;
 use behaviour_profile::Behaviour;
 use frac128::{Frac, Unfit};
-use game_core::tree_parts::stands_for_game_tree;
 use game_core::{Tree, sets_are_numbered_by_first_nodes, trees_are_game_trees};
 use perfect_recall::Recall;
 
@@ -53,7 +52,7 @@ pub fn check_tree(
     ensures scratch { IsScratchOf tree.now scratch.new }
     ensures verdict { tree_verdict tree.now behaviour.now result (reply_of scratch.new) }
 {
-    stands_for_game_tree(tree);
+    tree.stands_for_game_tree();
     scratch.forget_reply();
     let entries = behaviour.entries();
     for player in 0..tree.players().len() {

@@ -4,7 +4,6 @@ ghost use Rattle.game_theory.specs.Behaviour.{Behaviour};
 
 use frac128::{Frac, Unfit};
 use game_core::Tree;
-use game_core::tree_parts::{action_count, branch, is_own, owner, parent, pays, probability, set};
 
 /// A behaviour on a tree, as a check reads it. Players, nodes, sets and actions are numbered
 /// from 0.
@@ -45,9 +44,9 @@ impl<'a> PlayedBehaviour<'a> {
         ensures { (b : Behaviour) → Reads self.now b
             → result ≡ action_probability (game_of self.now) b set action }
     {
-        match owner(self.tree, set) {
+        match self.tree.owner(set) {
             Some(_) => self.entries[self.starts[set] + action],
-            None => probability(self.tree, set, action),
+            None => self.tree.probability(set, action),
         }
     }
 
@@ -64,8 +63,8 @@ impl<'a> PlayedBehaviour<'a> {
         ensures { (b : Behaviour) → Reads self.now b → let t = game_of self.now in
             StepsGive (now_steps_at t b player node) (value t b player node) result }
     {
-        let pays = pays(self.tree, node, player as usize);
-        match set(self.tree, node) {
+        let pays = self.tree.pays(node, player as usize);
+        match self.tree.set_at(node) {
             Some(set) => pays.add(self.value_after(player, node, set as usize)?),
             None => Ok(pays),
         }
@@ -83,7 +82,7 @@ impl<'a> PlayedBehaviour<'a> {
             StepsGive steps (now_value_after t b player node set) result }
     {
         let mut sum = Frac::zero();
-        for action in 0..action_count(self.tree, set) {
+        for action in 0..self.tree.action_count(set) {
             let probability = self.probability(set, action);
             let child = self.children[node][action] as usize;
             sum = self.with_branch(player, sum, probability, child)?;
@@ -127,14 +126,14 @@ impl<'a> PlayedBehaviour<'a> {
         if node == 0 {
             return Ok(Frac::one());
         }
-        let parent = parent(self.tree, node);
-        let Some(set) = set(self.tree, parent) else {
+        let parent = self.tree.parent(node);
+        let Some(set) = self.tree.set_at(parent) else {
             return Ok(weights[parent]);
         };
-        if is_own(self.tree, set as usize, player) {
+        if self.tree.is_own(set as usize, player) {
             return Ok(weights[parent]);
         }
-        let probability = self.probability(set as usize, branch(self.tree, node) as usize);
+        let probability = self.probability(set as usize, self.tree.branch(node) as usize);
         weights[parent].mul(probability)
     }
 

@@ -14,7 +14,6 @@ use crate::trees_behaviour::PlayedBehaviour;
 use crate::trees_replies::TreeReplies;
 use frac128::{Frac, Unfit};
 use game_core::Tree;
-use game_core::tree_parts::is_own;
 
 /// What a player gets.
 #[derive(Clone, Copy)]
@@ -92,7 +91,7 @@ pub(crate) fn write_reply(tree: &Tree, player: u32, choices: &[u32], reply: &mut
 {
     let mut count = 0;
     for set in 0..tree.sets().len() {
-        if is_own(tree, set, player) {
+        if tree.is_own(set, player) {
             reply[count] = choices[set];
             count += 1;
         }

@@ -4,7 +4,6 @@ ghost use Rattle.rational.specs.Rational.{◌≤ℚ◌, ◌<ℚ◌};
 
 use frac128::{Frac, Unfit};
 use game_core::Tree;
-use game_core::tree_parts::{action_count, is_own, pays, set, stands_for_game_tree};
 
 /// A player to whom a behaviour of the others leaves a reply. Players, nodes, sets and actions are
 /// numbered from 0.
@@ -72,7 +71,7 @@ impl<'a> TreeReplies<'a> {
             → StepsGive (reply_steps t b i choice node) (reply_value t b i choice node) result }
     {
         let following = self.value_after(choices, values, node)?;
-        let worth = self.weights[node].mul(pays(self.tree, node, self.player as usize))?;
+        let worth = self.weights[node].mul(self.tree.pays(node, self.player as usize))?;
         worth.add(following)
     }
 
@@ -89,10 +88,10 @@ impl<'a> TreeReplies<'a> {
             → OwnSetsFrom t i node first
             → StepsGive (after_steps_at t b i choice node) (after_sum_at t b i choice node) result }
     {
-        let Some(set) = set(self.tree, node) else {
+        let Some(set) = self.tree.set_at(node) else {
             return Ok(Frac::zero());
         };
-        if is_own(self.tree, set as usize, self.player) {
+        if self.tree.is_own(set as usize, self.player) {
             let child = self.children[node][choices[set as usize] as usize];
             Frac::zero().add(values[child as usize])
         } else {
@@ -122,7 +121,7 @@ impl<'a> TreeReplies<'a> {
             (children_sum t b i choice node set) result }
     {
         let mut sum = Frac::zero();
-        for action in 0..action_count(self.tree, set) {
+        for action in 0..self.tree.action_count(set) {
             let child = self.children[node][action] as usize;
             sum = sum.add(self.value(choices, values, child)?)?;
         }
@@ -181,10 +180,10 @@ impl<'a> TreeReplies<'a> {
             × All StepFits (decision_steps t b i choice set))
             (IsFirstUnfit (decision_steps t b i choice set)) }
     {
-        stands_for_game_tree(self.tree);
+        self.tree.stands_for_game_tree();
         let mut best = 0;
         let mut most = Frac::zero();
-        for action in 0..action_count(self.tree, set) {
+        for action in 0..self.tree.action_count(set) {
             let value = self.action_value(choices, values, set, action)?;
             if is_greater(action, most, value) {
                 best = action;
@@ -214,7 +213,7 @@ impl<'a> TreeReplies<'a> {
             (IsFirstUnfit (decisions t b i choice)) }
     {
         for set in (0..self.tree.sets().len()).rev() {
-            if !is_own(self.tree, set, self.player) {
+            if !self.tree.is_own(set, self.player) {
                 continue;
             }
             self.decide(choices, values, set)?;

@@ -33,7 +33,7 @@ fn shortened(n: i128) -> i64
 }
 
 // The number, where it has no more than 64 bits and its negative has no more.
-pub fn short_factor(n: i128) -> Option<i64>
+pub(crate) fn short_factor(n: i128) -> Option<i64>
     ensures { IfSome result (λ u. (u ≡ n) × IsShort u) }
 {
     if -TWO_TO_63 < n && n < TWO_TO_63 {
@@ -52,7 +52,7 @@ fn short_product(a: i64, b: i64) -> i128
 }
 
 // The product of a number of 64 bits and a factor; `None` where the number has more.
-pub fn short_times(a: i128, u: i64) -> Option<i128>
+pub(crate) fn short_times(a: i128, u: i64) -> Option<i128>
     requires { IsShort u }
     ensures { IfSome result (λ p. (p ≡ a *ℤ u) × (nat_abs p < 2 ^ 126) × (nat_abs a ≤ 2 ^ 63)) }
 {
@@ -64,7 +64,7 @@ pub fn short_times(a: i128, u: i64) -> Option<i128>
 }
 
 // The difference of two such products.
-pub fn short_difference(p: i128, q: i128) -> i128
+pub(crate) fn short_difference(p: i128, q: i128) -> i128
     requires left { nat_abs p < 2 ^ 126 }
     requires right { nat_abs q < 2 ^ 126 }
     ensures value { result ≡ p -ℤ q }
@@ -74,7 +74,7 @@ pub fn short_difference(p: i128, q: i128) -> i128
 }
 
 // The product, where it fits. Where both numbers fit 64 bits, nothing is tested.
-pub fn product(a: i128, b: i128) -> Option<i128>
+pub(crate) fn product(a: i128, b: i128) -> Option<i128>
     ensures { MatchOption result (¬ (PartFits (a *ℤ b))) (λ p. (p ≡ a *ℤ b) × PartFits p) }
 {
     if fits_64_bits(a) && fits_64_bits(b) {
@@ -88,7 +88,7 @@ pub fn product(a: i128, b: i128) -> Option<i128>
 }
 
 // The difference, where it fits.
-pub fn difference(a: i128, b: i128) -> Option<i128>
+pub(crate) fn difference(a: i128, b: i128) -> Option<i128>
     ensures { MatchOption result (¬ (PartFits (a -ℤ b))) (λ d. (d ≡ a -ℤ b) × PartFits d) }
 {
     let d = a.checked_sub(b)?;
@@ -99,7 +99,7 @@ pub fn difference(a: i128, b: i128) -> Option<i128>
 }
 
 // The product of a and u, less the product of b and v, where all three steps fit.
-pub fn combination(a: i128, u: i128, b: i128, v: i128) -> Option<i128>
+pub(crate) fn combination(a: i128, u: i128, b: i128, v: i128) -> Option<i128>
     ensures { IsWhereFit (combination_steps a u b v) ((a *ℤ u) -ℤ (b *ℤ v)) result }
 {
     difference(product(a, u)?, product(b, v)?)
@@ -116,7 +116,7 @@ pub fn fraction(num: i128, den: i128) -> Frac
 }
 
 // A product that does not fit, as a refusal.
-pub fn unfit_product(a: i128, b: i128) -> Unfit
+pub(crate) fn unfit_product(a: i128, b: i128) -> Unfit
     requires left { PartFits a }
     requires right { PartFits b }
     ensures { result ≡ product_step a b }
@@ -129,7 +129,7 @@ pub fn unfit_product(a: i128, b: i128) -> Unfit
 }
 
 // A difference that does not fit, as a refusal.
-pub fn unfit_difference(a: i128, b: i128) -> Unfit
+pub(crate) fn unfit_difference(a: i128, b: i128) -> Unfit
     requires left { PartFits a }
     requires right { PartFits b }
     ensures { result ≡ difference_step a b }
@@ -142,7 +142,7 @@ pub fn unfit_difference(a: i128, b: i128) -> Unfit
 }
 
 // Which of the three steps does not fit first.
-pub fn unfit_combination(a: i128, u: i128, b: i128, v: i128) -> Unfit
+pub(crate) fn unfit_combination(a: i128, u: i128, b: i128, v: i128) -> Unfit
     requires own { PartFits a }
     requires own_factor { PartFits u }
     requires other { PartFits b }
@@ -169,7 +169,7 @@ fn short_quotient(n: i64, d: i64) -> i64
 }
 
 // The quotient of a number by a divisor of it.
-pub fn exact_quotient(n: i128, d: i128) -> i128
+pub(crate) fn exact_quotient(n: i128, d: i128) -> i128
     requires positive { pos 0 <ℤ d }
     requires fits { PartFits n }
     requires divides { nat_abs d ∣ nat_abs n }

@@ -6,7 +6,7 @@ ghost use Rattle.frac128.specs.Fraction.{PartFits};
 use crate::arithmetic::exact_quotient;
 
 // 2^64.
-const BASE: u128 = 18446744073709551616;
+const TWO_TO_64: u128 = 18446744073709551616;
 
 // 2^63.
 const TWO_TO_63: u64 = 9223372036854775808;
@@ -65,7 +65,7 @@ impl Divisor {
         ensures { IfSome result (λ q. (q *ℤ pos self.now.value ≡ n) × PartFits q) }
     {
         let size = n.unsigned_abs();
-        let guess = (((size >> self.zeros) % BASE) as u64).wrapping_mul(self.inverse);
+        let guess = (((size >> self.zeros) % TWO_TO_64) as u64).wrapping_mul(self.inverse);
         if guess >= TWO_TO_63 || long_product(guess, self.value) != size {
             return None;
         }
@@ -75,7 +75,7 @@ impl Divisor {
 }
 
 // The quotient of a number by a divisor of it.
-pub fn quotient_by(n: i128, by: i128, divisor: Option<Divisor>) -> i128
+pub(crate) fn quotient_by(n: i128, by: i128, divisor: Option<Divisor>) -> i128
     requires positive { pos 0 <ℤ by }
     requires fits { PartFits n }
     requires divides { nat_abs by ∣ nat_abs n }

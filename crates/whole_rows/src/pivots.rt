@@ -27,7 +27,7 @@ fn times_sign(p: i128, n: i128) -> i128
 }
 
 // The greatest common divisor of an entry and another number.
-pub fn common_part(p: i128, k: i128) -> i128
+pub(crate) fn common_part(p: i128, k: i128) -> i128
     requires entry { p ≢ pos 0 }
     requires fits { PartFits p }
     ensures value { result ≡ pos (gcd_of (nat_abs p) (nat_abs k)) }
@@ -37,7 +37,7 @@ pub fn common_part(p: i128, k: i128) -> i128
 }
 
 // A number times the sign of p, divided.
-pub fn factor(p: i128, n: i128, common: i128) -> i128
+pub(crate) fn factor(p: i128, n: i128, common: i128) -> i128
     requires positive { pos 0 <ℤ common }
     requires fits { PartFits n }
     requires divides { nat_abs common ∣ nat_abs n }

@@ -13,7 +13,7 @@ use crate::places::RowPair;
 use frac128::{Unfit, gcd};
 
 // The greatest common divisor of a row. Where it is found to be 1, the rest is not looked at.
-pub fn common_divisor(numbers: &[i128], own: usize, size: usize) -> u128
+pub(crate) fn common_divisor(numbers: &[i128], own: usize, size: usize) -> u128
     requires own_in { own + size ≤ length numbers.now }
     requires some { 0 < size }
     requires positive { pos 0 <ℤ from_place numbers.now own 0 }
@@ -31,7 +31,7 @@ pub fn common_divisor(numbers: &[i128], own: usize, size: usize) -> u128
 }
 
 // Divides a row.
-pub fn divide_row(numbers: &mut [i128], own: usize, size: usize, by: i128)
+pub(crate) fn divide_row(numbers: &mut [i128], own: usize, size: usize, by: i128)
     requires own_in { own + size ≤ length numbers.old }
     requires positive { pos 0 <ℤ by }
     requires fit { RowFits size (from_place numbers.old own) }
@@ -48,7 +48,12 @@ pub fn divide_row(numbers: &mut [i128], own: usize, size: usize, by: i128)
 }
 
 // Writes a row times u, less the pivot's row times v.
-pub fn write_combination(pair: RowPair, spare: &mut [i128], u: i128, v: i128) -> Result<(), Unfit>
+pub(crate) fn write_combination(
+    pair: RowPair,
+    spare: &mut [i128],
+    u: i128,
+    v: i128,
+) -> Result<(), Unfit>
     requires spare_in { pair.own + pair.size ≤ length spare.old }
     requires own_factor { PartFits u }
     requires other_factor { PartFits v }
@@ -72,7 +77,7 @@ pub fn write_combination(pair: RowPair, spare: &mut [i128], u: i128, v: i128) ->
 
 // Writes a row times u, less the pivot's row times v, divided. It gives up where a number has more
 // than 64 bits or is not divided.
-pub fn write_divided(pair: RowPair, spare: &mut [i128], u: i64, v: i64, by: Divisor) -> bool
+pub(crate) fn write_divided(pair: RowPair, spare: &mut [i128], u: i64, v: i64, by: Divisor) -> bool
     requires spare_in { pair.own + pair.size ≤ length spare.old }
     requires own_factor { IsShort u }
     requires other_factor { IsShort v }
@@ -96,7 +101,7 @@ pub fn write_divided(pair: RowPair, spare: &mut [i128], u: i64, v: i64, by: Divi
 }
 
 // Copies a row.
-pub fn copy_row(numbers: &[i128], spare: &mut [i128], own: usize, size: usize)
+pub(crate) fn copy_row(numbers: &[i128], spare: &mut [i128], own: usize, size: usize)
     requires own_in { own + size ≤ length numbers.now }
     requires spare_in { own + size ≤ length spare.old }
     ensures length { length spare.new ≡ length spare.old }
@@ -131,7 +136,13 @@ fn turned_number(numbers: &[i128], first: usize, column: usize, place: usize) ->
 }
 
 // Writes the pivot's row.
-pub fn write_turned(numbers: &[i128], spare: &mut [i128], first: usize, column: usize, size: usize)
+pub(crate) fn write_turned(
+    numbers: &[i128],
+    spare: &mut [i128],
+    first: usize,
+    column: usize,
+    size: usize,
+)
     requires first_in { first + size ≤ length numbers.now }
     requires spare_in { first + size ≤ length spare.old }
     requires column_in { column < size }

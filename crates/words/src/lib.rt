@@ -67,8 +67,8 @@ pub enum Settings {
         game: String,
         lines: Option<String>,
     },
-    /// Make a table of two players from a number, with so many strategies of the first and of the second, and count
-    /// what is found in it. From 1 to 64 workers share the enumeration.
+    /// Make a table of two players from a number, which is at most 2,147,483,647, with so many strategies of the first
+    /// and of the second, from 1 to 32, and count what is found in it. From 1 to 64 workers share the enumeration.
     Make {
         number: u32,
         rows: u32,
@@ -118,6 +118,10 @@ impl From<AllocError> for SettingsStop {
 }
 
 /// Reads the words that stand after the program's own name.
+///
+/// # Errors
+///
+/// `Usage` exactly where the words are refused, and how; `Memory` where memory ran out.
 pub fn read_settings(alloc: Global, words: &[String]) -> Result<Settings, SettingsStop>
     ensures settings { IfOk result (λ s. command_from (map string_bytes words.now)
         ≡ Ok (command_of s)) }

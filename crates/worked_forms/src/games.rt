@@ -5,7 +5,7 @@ use game_text::read_tokens;
 use std::alloc::Global;
 
 // The tree that a text stands for; nothing where it is none.
-pub fn tree_of(alloc: Global, text: &[u8]) -> Option<Tree> {
+pub(crate) fn tree_of(alloc: Global, text: &[u8]) -> Option<Tree> {
     let Ok(tokens) = read_tokens(alloc, text) else {
         return None;
     };
@@ -15,7 +15,7 @@ pub fn tree_of(alloc: Global, text: &[u8]) -> Option<Tree> {
     read(alloc, &tokens).ok()
 }
 
-pub const POKER: &[u8] = br#"EFG 2 R "A simple Poker game" { "Fred" "Alice" } ""
+pub(crate) const POKER: &[u8] = br#"EFG 2 R "A simple Poker game" { "Fred" "Alice" } ""
 c "" 1 "" { "Red" 1/2 "Black" 1/2 } 0
 p "" 1 1 "" { "Raise" "Fold" } 0
 p "" 2 1 "" { "Meet" "Pass" } 0
@@ -28,14 +28,14 @@ t "" 3 "Lose Big" { -2, 2 }
 t "" 2 "Win" { 1, -1 }
 t "" 4 "Lose" { -1, 1 }"#;
 
-pub const ALONE: &[u8] = br#"EFG 2 R "Alone" { "A" }
+pub(crate) const ALONE: &[u8] = br#"EFG 2 R "Alone" { "A" }
 p "" 1 1 "" { "L" "R" } 0
 t "" 1 "" { 3 }
 p "" 1 2 "" { "U" "D" } 0
 t "" 2 "" { 1 }
 t "" 3 "" { 2 }"#;
 
-pub const FORGET: &[u8] = br#"EFG 2 R "Forget" { "One" "Two" }
+pub(crate) const FORGET: &[u8] = br#"EFG 2 R "Forget" { "One" "Two" }
 p "" 1 1 "" { "A" "B" } 0
 p "" 1 2 "" { "C" "D" } 0
 t "" 1 "" { 1, 0 }
@@ -45,7 +45,7 @@ t "" 2 ""
 t "" 3 "" { 2, 0 }"#;
 
 // A firm stays out or enters, and the other fights or shares.
-pub const ENTRY: &[u8] = br#"EFG 2 R "Entry" { "E" "I" }
+pub(crate) const ENTRY: &[u8] = br#"EFG 2 R "Entry" { "E" "I" }
 p "" 1 1 "" { "Out" "In" } 0
 t "" 1 "Out" { 0, 2 }
 p "" 2 1 "" { "Fight" "Accommodate" } 0

@@ -1,6 +1,6 @@
 // Files of trees as they are read, their parts written out as text.
 use crate::games::{POKER, tree_of};
-use frac128::Memory;
+use answers::Memory;
 use game_core::{InfoSet, Kind, Name, Node, Outcome, Tree};
 use ne_printer::push_fraction;
 use std::alloc::Global;

@@ -1,6 +1,7 @@
 // The sequence form of worked trees and of a table.
 use crate::games::{ALONE, ENTRY, POKER, tree_of};
-use frac128::{Frac, Memory};
+use answers::Memory;
+use frac128::Frac;
 use game_core::{Table, Tree};
 use ne_printer::push_fraction;
 use perfect_recall::find_recall;
@@ -51,7 +52,7 @@ fn form_text(alloc: Global, form: &SeqForm) -> Result<Vec<u8>, Memory> {
 }
 
 // The sequence form of a tree; nothing where it has none, or where a player forgets.
-pub fn form_of(alloc: Global, tree: &Tree) -> Option<SeqForm> {
+pub(crate) fn form_of(alloc: Global, tree: &Tree) -> Option<SeqForm> {
     let recall = find_recall(alloc, tree).ok()?;
     build(alloc, tree, &recall).ok()
 }

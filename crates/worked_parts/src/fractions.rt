@@ -107,7 +107,7 @@ fn numbers(word: &str) -> Option<(i128, i128)> {
 }
 
 /// The fraction that a word is.
-pub fn parsed(word: &str) -> Option<Frac> {
+pub(crate) fn parsed(word: &str) -> Option<Frac> {
     let (num, den) = numbers(word)?;
     Frac::new(num, den)
 }

@@ -1,6 +1,7 @@
 // Lines of profiles: how they are written, and which are read.
 use crate::fractions::parsed;
-use frac128::{Frac, Memory};
+use answers::Memory;
+use frac128::Frac;
 use ne_printer::{LineStop, first_line, fraction, line, push_numbers, read_line};
 use std::alloc::Global;
 

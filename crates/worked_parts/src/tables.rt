@@ -1,5 +1,5 @@
 // The readers of a table, on a table that is written by hand.
-use frac128::Memory;
+use answers::Memory;
 use game_core::{Table, profile_count};
 use game_text::read_tokens;
 use ne_printer::fraction;

@@ -6,7 +6,7 @@ use Rattle.std.proofs.lemmas.List.{get_or_past}
 use Rattle.rational.specs.Rational.{ℚ, zero_ℚ, one_ℚ, ◌≤ℚ◌}
 use Rattle.rational.proofs.Field.{le_refl, le_of_lt}
 use Rattle.rational.proofs.InverseLemmas.{zero_lt_one}
-use Rattle.linear_systems.specs.Reached.{IsVariableOf, in_row, in_column}
+use Rattle.linear_systems.specs.RowEquivalence.{IsVariableOf, in_row, in_column}
 use Rattle.lex_tableau.specs.Entries.{AreNumbered}
 use Rattle.lex_tableau.specs.Starts.{IsSystem, linear_system, system_of}
 use Rattle.basis_enum.specs.Systems.{IsEnumerable}

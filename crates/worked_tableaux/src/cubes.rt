@@ -74,8 +74,8 @@ fn counts<R: Threads + Sync, G: Gate, L: Ledger>(
     }
 }
 
-/// The same, with steps counted on a blank of their own.
-pub fn counted<R: Threads + Sync, G: Gate>(
+/// The same, with pivots counted on a blank of their own.
+pub(crate) fn counted<R: Threads + Sync, G: Gate>(
     rt: &R,
     alloc: Global,
     size: u32,

@@ -3,8 +3,8 @@ ghost use Rattle.std.specs.Prelude.{◌≡◌, ◌<◌, ◌*◌, ◌^◌, map, I
 ghost use Rattle.std.specs.List.{range_with_len};
 
 use crate::stop::Stop;
+use answers::Memory;
 use claims::{Claims, Helpers, helped_map};
-use frac128::Memory;
 use game_core::{Gate, OpenGate};
 use std::alloc::Global;
 use std::sync::atomic::{AtomicBool, Ordering};

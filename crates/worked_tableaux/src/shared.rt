@@ -3,8 +3,8 @@ ghost use Rattle.std.specs.Prelude.{◌≡◌, ◌<◌, ◌≤◌, ◌*◌, ◌^
 ghost use Rattle.std.specs.List.{range_with_len};
 
 use crate::gates::HoldingGate;
+use answers::Memory;
 use claims::{Claims, shared_map};
-use frac128::Memory;
 use game_core::{Gate, OpenGate};
 use std::alloc::Global;
 use std::sync::atomic::{AtomicU64, Ordering};

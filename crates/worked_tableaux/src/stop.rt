@@ -1,5 +1,5 @@
 // Why a test does not end.
-use frac128::Memory;
+use answers::Memory;
 use std::alloc::{AllocError, AllocFailed};
 
 /// There was no memory, a step does not fit, or an enumeration was refused.

@@ -1,7 +1,8 @@
 // Systems whose starts, pivots and lexicographic rows were worked by hand.
 ghost use Rattle.std.specs.Prelude.{◌≡◌, ◌+◌, ◌*◌, ◌<◌, ◌≤◌, length, IfOk};
 
-use frac128::{Frac, Memory, Unfit};
+use answers::Memory;
+use frac128::{Frac, Op, Unfit};
 use lex_tableau::{PivotCount, StartStop, System, Tableau, Work, numbered};
 use std::alloc::Global;
 use std::marker::Brand;
@@ -21,17 +22,25 @@ enum Outcome<'a> {
     Row(Option<usize>),
 }
 
-// A system, the acts on its tableau with their outcomes, and the rows at the end, where they are
-// looked at; or the row and the step that does not fit where there is no start. The cells stand row
-// by row with the right side last. The variables of the rows are numbered 0, 1, .., and those of
-// the columns from there on.
+// The tableau at the end: one that is not looked at; its rows; or none, since a step of a row of the
+// start does not fit.
+#[derive(Clone, Copy)]
+enum End<'a> {
+    Any,
+    Rows(&'a str),
+    NoStart(u32, &'a str),
+}
+
+// A system, the acts on its tableau with their outcomes, and the end. The cells stand row by row with
+// the right side last. The variables of the rows are numbered 0, 1, .., and those of the columns from
+// there on.
 struct Case<'a> {
     rows: u16,
     width: u16,
     rated: u16,
     cells: &'a str,
     turns: &'a [(Act, Outcome<'a>)],
-    end: &'a str,
+    end: End<'a>,
 }
 
 // In the comments Q is 2^62 and W is 2^126.
@@ -43,7 +52,7 @@ const CASES: [Case<'static>; 11] = [
         rated: 1,
         cells: "1/2 -2/3 5/6",
         turns: &[],
-        end: "0: 1/2 -2/3 5/6",
+        end: End::Rows("0: 1/2 -2/3 5/6"),
     },
     // A start that does not fit: 1, (Q + 1) / Q, (Q + 2) / (Q + 1), Q / (Q - 1) and 1.
     Case {
@@ -52,7 +61,10 @@ const CASES: [Case<'static>; 11] = [
         rated: 1,
         cells: "1/1 4611686018427387905/4611686018427387904 4611686018427387906/4611686018427387905 4611686018427387904/4611686018427387903 1/1",
         turns: &[],
-        end: "row 0: Mul 21267647932558653971072598982912901120/1 4611686018427387903/1",
+        end: End::NoStart(
+            0,
+            "Mul 21267647932558653971072598982912901120/1 4611686018427387903/1",
+        ),
     },
     // The least quotient is 1 / Q, in the second row. Its pivot takes 17 times Q squared.
     Case {
@@ -67,7 +79,7 @@ const CASES: [Case<'static>; 11] = [
                 Outcome::Unfit("Mul 17/1 21267647932558653966460912964485513216/1"),
             ),
         ],
-        end: "",
+        end: End::Any,
     },
     // A row with 0 in the column stays.
     Case {
@@ -76,7 +88,7 @@ const CASES: [Case<'static>; 11] = [
         rated: 2,
         cells: "2/1 1/1 1/1 0/1 3/1 1/1",
         turns: &[(Act::Pivot(0, 0), Outcome::Pivoted)],
-        end: "2: 1/2 1/2 1/2, 1: 0/1 3/1 1/1",
+        end: End::Rows("2: 1/2 1/2 1/2, 1: 0/1 3/1 1/1"),
     },
     // A negative entry.
     Case {
@@ -85,7 +97,7 @@ const CASES: [Case<'static>; 11] = [
         rated: 2,
         cells: "-2/1 1/1 1/1 4/1 3/1 1/1",
         turns: &[(Act::Pivot(0, 0), Outcome::Pivoted)],
-        end: "2: -1/2 -1/2 -1/2, 1: 2/1 5/1 3/1",
+        end: End::Rows("2: -1/2 -1/2 -1/2, 1: 2/1 5/1 3/1"),
     },
     // The second row becomes 2 -2 2 W 0, and then its half. So the next pivot multiplies by half of
     // W, which 4 does not bear.
@@ -101,7 +113,9 @@ const CASES: [Case<'static>; 11] = [
                 Outcome::Unfit("Mul 4/1 42535295865117307932921825928971026432/1"),
             ),
         ],
-        end: "2: 2/1 4/1 1/1 1/1, 1: -1/1 1/1 42535295865117307932921825928971026432/1 0/1",
+        end: End::Rows(
+            "2: 2/1 4/1 1/1 1/1, 1: -1/1 1/1 42535295865117307932921825928971026432/1 0/1",
+        ),
     },
     // Two products, W and -W, whose difference does not fit, in the middle of a row. Nothing has
     // changed then.
@@ -116,7 +130,9 @@ const CASES: [Case<'static>; 11] = [
                 "Sub 85070591730234615865843651857942052864/1 -85070591730234615865843651857942052864/1",
             ),
         )],
-        end: "0: 1/1 -85070591730234615865843651857942052864/1 1/1, 1: 1/1 85070591730234615865843651857942052864/1 1/1",
+        end: End::Rows(
+            "0: 1/1 -85070591730234615865843651857942052864/1 1/1, 1: 1/1 85070591730234615865843651857942052864/1 1/1",
+        ),
     },
     // A tie that the second key breaks: the first row has 1 of its own variable.
     Case {
@@ -125,7 +141,7 @@ const CASES: [Case<'static>; 11] = [
         rated: 2,
         cells: "1/1 1/1 1/1 1/1",
         turns: &[(Act::Ratio(0), Outcome::Row(Some(1)))],
-        end: "",
+        end: End::Any,
     },
     // A tie that the last key breaks: both rows have 1 of variable 0, and the second has 0 of
     // variable 1.
@@ -139,7 +155,7 @@ const CASES: [Case<'static>; 11] = [
             (Act::Pivot(0, 1), Outcome::Pivoted),
             (Act::Ratio(2), Outcome::Row(Some(1))),
         ],
-        end: "3: 1/1 1/1 1/1 1/1, 2: 0/1 1/1 1/1 1/1",
+        end: End::Rows("3: 1/1 1/1 1/1 1/1, 2: 0/1 1/1 1/1 1/1"),
     },
     // A row that is not rated has the least quotient.
     Case {
@@ -148,7 +164,7 @@ const CASES: [Case<'static>; 11] = [
         rated: 1,
         cells: "1/1 2/1 1/1 1/1",
         turns: &[(Act::Ratio(0), Outcome::Row(Some(0)))],
-        end: "",
+        end: End::Any,
     },
     // No positive entry.
     Case {
@@ -160,7 +176,7 @@ const CASES: [Case<'static>; 11] = [
             (Act::Ratio(0), Outcome::Row(None)),
             (Act::Ratio(1), Outcome::Row(None)),
         ],
-        end: "",
+        end: End::Any,
     },
 ];
 
@@ -198,52 +214,60 @@ fn system(
     Ok(System::new(basics, nonbasics, cells, rated as usize))
 }
 
-// Adds a fraction after a space.
-fn push_fraction(alloc: Global, text: &mut String, value: Frac) -> Result<(), Memory> {
-    text.push_str(format!(in alloc; " {}/{}", value.num(), value.den())?.as_str())?;
-    Ok(())
+// The step that words name: its operation and both operands.
+fn step(words: &str) -> Option<Unfit> {
+    let (op, operands) = words.split_once(' ')?;
+    let (left, right) = operands.split_once(' ')?;
+    let op = match op {
+        "Sub" => Op::Sub,
+        "Mul" => Op::Mul,
+        _ => return None,
+    };
+    Some(Unfit {
+        op,
+        left: fraction(left)?,
+        right: fraction(right)?,
+    })
 }
 
-// The text of a step that does not fit.
-fn unfit_text(alloc: Global, unfit: Unfit) -> Result<String, Memory> {
-    let mut text = format!(in alloc; "{:?}", unfit.op)?;
-    push_fraction(alloc, &mut text, unfit.left)?;
-    push_fraction(alloc, &mut text, unfit.right)?;
-    Ok(text)
-}
-
-// Adds a row of a tableau: its basic variable, the entries and the right side.
-fn push_row(alloc: Global, text: &mut String, tableau: &Tableau, row: usize) -> Result<(), Memory>
+// Whether these are the entries of a row and its right side.
+fn is_row(tableau: &Tableau, row: usize, words: &str) -> bool
     requires { row < length tableau.now.basics }
 {
-    text.push_str(format!(in alloc; "{}:", tableau.basic(row))?.as_str())?;
+    let mut numbers = words.split(' ');
     for col in 0..tableau.nonbasics().len() {
-        push_fraction(alloc, text, tableau.entry(row, col))?;
+        match numbers.next() {
+            Some(word) if fraction(word) == Some(tableau.entry(row, col)) => {}
+            _ => return false,
+        }
     }
-    push_fraction(alloc, text, tableau.right(row))
+    match numbers.next() {
+        Some(word) => fraction(word) == Some(tableau.right(row)) && numbers.next().is_none(),
+        None => false,
+    }
 }
 
-// The text of a tableau, row by row.
-fn tableau_text(alloc: Global, tableau: &Tableau) -> Result<String, Memory> {
-    let mut text = String::new(alloc);
+// Whether these are the rows of a tableau, each after its basic variable.
+fn is_tableau(tableau: &Tableau, words: &str) -> bool {
+    let mut rows = words.split(", ");
     for row in 0..tableau.basics().len() {
-        if row > 0 {
-            text.push_str(", ")?;
+        match rows.next().and_then(|line| line.split_once(": ")) {
+            Some((basic, numbers))
+                if basic.parse::<u32>() == Ok(tableau.basic(row))
+                    && is_row(tableau, row, numbers) => {}
+            _ => return false,
         }
-        push_row(alloc, &mut text, tableau, row)?;
     }
-    Ok(text)
+    rows.next().is_none()
 }
 
 impl<'a> Outcome<'a> {
     // Whether a pivot ends so.
-    fn is_pivot(self, alloc: Global, end: Result<(), Unfit>) -> Result<bool, Memory> {
+    fn is_pivot(self, end: Result<(), Unfit>) -> bool {
         match (self, end) {
-            (Outcome::Pivoted, Ok(())) => Ok(true),
-            (Outcome::Unfit(wanted), Err(unfit)) => Ok(
-                unfit_text(alloc, unfit)?.as_str() == wanted,
-            ),
-            _ => Ok(false),
+            (Outcome::Pivoted, Ok(())) => true,
+            (Outcome::Unfit(wanted), Err(unfit)) => step(wanted) == Some(unfit),
+            _ => false,
         }
     }
 
@@ -263,24 +287,18 @@ struct Rated {
 
 impl Rated {
     // Whether an act ends so.
-    fn ends<L: Ledger>(
-        &mut self,
-        alloc: Global,
-        act: Act,
-        outcome: Outcome,
-        pivots: &mut PivotCount<L>,
-    ) -> Result<bool, Memory> {
+    fn ends<L: Ledger>(&mut self, act: Act, outcome: Outcome, pivots: &mut PivotCount<L>) -> bool {
         let rows = self.work.now().basics().len();
         let width = self.work.now().nonbasics().len();
         match act {
-            Act::Ratio(col) if col < width => Ok(outcome.is_row(self.work.now().ratio_row(col))),
+            Act::Ratio(col) if col < width => outcome.is_row(self.work.now().ratio_row(col)),
             Act::Pivot(row, col) if row < rows && row < self.rated && col < width => {
                 if self.work.now().entry(row, col).is_zero() {
-                    return Ok(false);
+                    return false;
                 }
-                outcome.is_pivot(alloc, self.work.pivot(row, col, pivots))
+                outcome.is_pivot(self.work.pivot(row, col, pivots))
             }
-            _ => Ok(false),
+            _ => false,
         }
     }
 }
@@ -298,30 +316,33 @@ impl<'a> Case<'a> {
         match Work::new(alloc, &system) {
             Ok(work) => {
                 let rated = self.rated as usize;
-                self.turns_hold(alloc, Rated { work, rated }, PivotCount::<L>::new(blank))
+                Ok(self.turns_hold(Rated { work, rated }, PivotCount::<L>::new(blank)))
             }
-            Err(StartStop::Unfit { row, unfit }) => {
-                let step = unfit_text(alloc, unfit)?;
-                Ok(format!(in alloc; "row {row}: {step}")?.as_str() == self.end)
-            }
+            Err(StartStop::Unfit { row, unfit }) => Ok(self.has_no_start(row, unfit)),
             Err(StartStop::Memory) => Err(Memory),
         }
     }
 
+    // Whether there is to be no start, for this step of this row.
+    fn has_no_start(&self, row: u32, unfit: Unfit) -> bool {
+        match self.end {
+            End::NoStart(number, wanted) => number == row && step(wanted) == Some(unfit),
+            _ => false,
+        }
+    }
+
     // Whether the acts and the rows at the end are those that are wanted.
-    fn turns_hold<L: Ledger>(
-        &self,
-        alloc: Global,
-        mut tableau: Rated,
-        mut pivots: PivotCount<L>,
-    ) -> Result<bool, Memory> {
+    fn turns_hold<L: Ledger>(&self, mut tableau: Rated, mut pivots: PivotCount<L>) -> bool {
         for (act, outcome) in self.turns {
-            if !tableau.ends(alloc, *act, *outcome, &mut pivots)? {
-                return Ok(false);
+            if !tableau.ends(*act, *outcome, &mut pivots) {
+                return false;
             }
         }
-        let text = tableau_text(alloc, tableau.work.now())?;
-        Ok(self.end.is_empty() || text.as_str() == self.end)
+        match self.end {
+            End::Any => true,
+            End::Rows(words) => is_tableau(tableau.work.now(), words),
+            End::NoStart(_, _) => false,
+        }
     }
 }
 

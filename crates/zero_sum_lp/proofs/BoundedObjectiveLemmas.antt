@@ -12,7 +12,7 @@ use Rattle.rational.proofs.Rules.{zero-*ℚ, times_zero}
 use Rattle.game_theory.specs.Mixed.{sure}
 use Rattle.game_theory.proofs.SureStrategyLemmas.{sure-other}
 use Rattle.linear_systems.specs.Tableau.{left}
-use Rattle.linear_systems.specs.Reached.{IsStart}
+use Rattle.linear_systems.specs.RowEquivalence.{IsStart}
 use Rattle.sequence_forms.specs.Sides.{Side, first, sequences, place, IsOrderedSide}
 use Rattle.sequence_forms.specs.Matrices.{set_row, row_total, column_total, AreNotNegative}
 use Rattle.sequence_forms.specs.Prices.{prices_after}

@@ -12,7 +12,7 @@ use Rattle.zero_sum_lp.specs.Paths.{LinearProgram, IsFeasibleAndBounded, IsEnter
 use Rattle.linear_systems.proofs.LexLemmas.{lex_same}
 use Rattle.linear_systems.proofs.RowLemmas.{key_alike}
 use Rattle.linear_systems.proofs.AgreementLemmas.{alike_both, alike_trans, alike_pivot, alike_lex_row}
-use Rattle.linear_systems.proofs.ReachedTableauLemmas.{reached_alike}
+use Rattle.linear_systems.proofs.RowEquivalenceLemmas.{reached_alike}
 use Rattle.linear_systems.proofs.LexRowLemmas.{lex_row_once, below_cases}
 use Rattle.zero_sum_lp.proofs.PathBeginLemmas.{start_on_path}
 use Rattle.zero_sum_lp.proofs.ObjectiveGrowthLemmas.{IsLexicographicallyFeasible, path_step, step_grows}

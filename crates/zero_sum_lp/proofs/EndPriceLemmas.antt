@@ -7,7 +7,7 @@ use Rattle.rational.proofs.Linear.{linear, at, lit, ◌⟨-⟩◌, ◌⟨≤⟩�
 use Rattle.rational.proofs.Field.{le_trans, le-mul_right}
 use Rattle.rational.proofs.SumLemmas.{sum_to-le, sum_to-same}
 use Rattle.linear_systems.specs.Tableau.{Tableau}
-use Rattle.linear_systems.specs.Reached.{IsStart}
+use Rattle.linear_systems.specs.RowEquivalence.{IsStart}
 use Rattle.linear_systems.specs.Rows.{basic_solution, unit_at, coefficient}
 use Rattle.linear_systems.proofs.RowLemmas.{unit_self, unit_other}
 use Rattle.sequence_forms.specs.Forms.{SequenceForm, row_sum, column_sum}

@@ -2,7 +2,7 @@
 use Rattle.std.proofs.Common.{ℕ, suc, zero, ◌<◌, ◌≤◌, ◌≡◌, ◌+◌, ◌*◌, ◌^◌, eqb, cond, Bool, true, false, refl, sym, ap, ◌∙◌, subst, arith, inl, inr, pow-suc, true≢false}
 use Rattle.std.proofs.lemmas.Bool.{cases_eq}
 use Rattle.linear_systems.specs.Tableau.{Tableau}
-use Rattle.linear_systems.specs.Reached.{HasSameBasis}
+use Rattle.linear_systems.specs.RowEquivalence.{HasSameBasis}
 use Rattle.linear_systems.proofs.PivotLemmas.{eqb_same, eqb_apart}
 use Rattle.linear_systems.proofs.LexRowLemmas.{below_cases}
 

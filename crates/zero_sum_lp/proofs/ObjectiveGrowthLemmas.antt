@@ -12,11 +12,11 @@ use Rattle.rational.proofs.Linear.{linear, minus, at, lit, ◌⟨<⟩◌}
 use Rattle.rational.proofs.Field.{pos-mul}
 use Rattle.linear_systems.specs.Lex.{IsLexPositive, IsLexLess}
 use Rattle.linear_systems.specs.Rows.{key, IsLexicographicRow, Alike}
-use Rattle.linear_systems.specs.Reached.{IsReached, IsStart}
+use Rattle.linear_systems.specs.RowEquivalence.{IsRowEquivalent, IsStart}
 use Rattle.linear_systems.proofs.LexLemmas.{lex_same, lex_scale, less_trans, less_apart}
 use Rattle.linear_systems.proofs.RowLemmas.{key_other, key_alike}
 use Rattle.linear_systems.proofs.PivotLemmas.{eqb_apart}
-use Rattle.linear_systems.proofs.ReachedTableauLemmas.{reached_pivot, reached_alike}
+use Rattle.linear_systems.proofs.RowEquivalenceLemmas.{reached_pivot, reached_alike}
 use Rattle.linear_systems.proofs.LexRowLemmas.{keys_stay}
 use Rattle.linear_systems.proofs.BasisLemmas.{same_rest_key}
 use Rattle.zero_sum_lp.proofs.MaskLemmas.{has_basic, basis_number, mask_below, same_basis}
@@ -24,7 +24,7 @@ use Rattle.rational.proofs.InverseLemmas.{inv_pos, ne_zero_of_pos}
 
 -- reached, and the constraints' keys are lexicographically positive
 pub record IsLexicographicallyFeasible (N m : ℕ) (s t : Tableau) : Type 0 where
-  pub reached : IsReached N m s t
+  pub reached : IsRowEquivalent N m s t
   pub keys : (i : ℕ) → i < m → IsLexPositive (suc m) (key s.basic t i)
 
 -- row l improves by column c, which enters at its lexicographic row r
@@ -41,7 +41,7 @@ AllLess m l b t (u ∷ us) = IsLexLess (suc m) (key b u l) (key b t l) × AllLes
 -- reached tableaux, the last first, whose row l grows
 abbrev pub Chain : ℕ → ℕ → ℕ → Tableau → List Tableau → Type 0
 Chain N m l s [] = Unit {0}
-Chain N m l s (t ∷ ts) = IsReached N m s t × (AllLess m l s.basic t ts × Chain N m l s ts)
+Chain N m l s (t ∷ ts) = IsRowEquivalent N m s t × (AllLess m l s.basic t ts × Chain N m l s ts)
 
 -- ---- one step
 pub row_grows : (m l : ℕ) (b : ℕ → ℕ) (t : Tableau) (c r : ℕ) → m ≤ l → Improves m l b t c r → ((i : ℕ) → i < m → IsLexPositive (suc m) (key b t i)) → IsLexLess (suc m) (key b t l) (key b (pivot t r c) l)
@@ -71,10 +71,10 @@ all_less_trans : (m l : ℕ) (b : ℕ → ℕ) (t u : Tableau) (ts : List Tablea
 all_less_trans m l b t u [] h a = tt
 all_less_trans m l b t u (v ∷ vs) h a = (less_trans (suc m) _ _ _ a.0 h, all_less_trans m l b t u vs h a.1)
 
-pub chain_more : (N m l : ℕ) (s t u : Tableau) (ts : List Tableau) → Chain N m l s (t ∷ ts) → IsReached N m s u → IsLexLess (suc m) (key s.basic t l) (key s.basic u l) → Chain N m l s (u ∷ (t ∷ ts))
+pub chain_more : (N m l : ℕ) (s t u : Tableau) (ts : List Tableau) → Chain N m l s (t ∷ ts) → IsRowEquivalent N m s u → IsLexLess (suc m) (key s.basic t l) (key s.basic u l) → Chain N m l s (u ∷ (t ∷ ts))
 chain_more N m l s t u ts ch p h = (p, ((h, all_less_trans m l s.basic t u ts h ch.1.0), ch))
 
-pub bases_apart : (N m l : ℕ) (s t u : Tableau) → IsStart N m s → m ≤ l → l < s.rows → IsReached N m s t → IsReached N m s u → IsLexLess (suc m) (key s.basic u l) (key s.basic t l) → basis_number N m t ≡ basis_number N m u → ⊥
+pub bases_apart : (N m l : ℕ) (s t u : Tableau) → IsStart N m s → m ≤ l → l < s.rows → IsRowEquivalent N m s t → IsRowEquivalent N m s u → IsLexLess (suc m) (key s.basic u l) (key s.basic t l) → basis_number N m t ≡ basis_number N m u → ⊥
 bases_apart N m l s t u st ml hl p q h e =
     let rated : m ≤ s.rows = st.rated in
     less_apart (suc m) _ _ h (λ j _. same_rest_key N m s t u s.basic l j st p q (same_basis N m t u (λ i hi. p.basic_below i (omega arith)) e) ml hl)
@@ -96,7 +96,7 @@ unfolding numbers
 length_numbers N m [] = refl
 length_numbers N m (t ∷ ts) = ap suc (length_numbers N m ts)
 
-number_apart : (N m l : ℕ) (s t : Tableau) (ts : List Tableau) → IsStart N m s → m ≤ l → l < s.rows → IsReached N m s t → AllLess m l s.basic t ts → Chain N m l s ts → AllByRecursion (λ k. eqb (basis_number N m t) k ≡ false) (numbers N m ts)
+number_apart : (N m l : ℕ) (s t : Tableau) (ts : List Tableau) → IsStart N m s → m ≤ l → l < s.rows → IsRowEquivalent N m s t → AllLess m l s.basic t ts → Chain N m l s ts → AllByRecursion (λ k. eqb (basis_number N m t) k ≡ false) (numbers N m ts)
 unfolding numbers
 number_apart N m l s t [] st ml hl p a ch = tt
 number_apart N m l s t (u ∷ us) st ml hl p a ch =

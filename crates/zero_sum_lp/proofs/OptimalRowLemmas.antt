@@ -14,7 +14,7 @@ use Rattle.rational.proofs.SumLemmas.{sum_to-same, sum_to-neg, sum_to-zeros, sum
 use Rattle.rational.proofs.Rules.{times_zero}
 use Rattle.linear_systems.specs.Lex.{IsLexPositive}
 use Rattle.linear_systems.specs.Rows.{unit_at, basic_solution, coefficient, key, row}
-use Rattle.linear_systems.specs.Reached.{IsReached, IsStart}
+use Rattle.linear_systems.specs.RowEquivalence.{IsRowEquivalent, IsStart}
 use Rattle.linear_systems.proofs.LastRowLemmas.{last_row}
 use Rattle.linear_systems.proofs.SolutionLemmas.{solution_basic, solution_solves}
 use Rattle.linear_systems.proofs.RowLemmas.{unit_other, unit_nonneg, coefficient_row, coefficient_cell, left_zero}
@@ -35,19 +35,19 @@ coef_nonneg t l v h =
     linear (unit_at v (t.basic l) ∷ sum_to t.width (λ j. t.cell l j *ℚ unit_at v (t.nonbasic j)) ∷ []) ((lit (pos 0) ⟨≤⟩ at 0) ∷ (lit (pos 0) ⟨≤⟩ at 1) ∷ []) (lit (pos 0) ⟨≤⟩ (at 0 ⟨+⟩ at 1)) (λ one z p h. omega (arith, ints)) (unit_nonneg v (t.basic l), (sum_to-nonneg t.width _ (λ j hj. nonneg-mul (t.cell l j) (unit_at v (t.nonbasic j)) (h j hj) (unit_nonneg v (t.nonbasic j))), tt))
 
 -- column j of the start, weighed by the last row
-pub dual_column : (N m : ℕ) (s t : Tableau) (l j : ℕ) → IsStart N m s → m ≤ l → l < s.rows → IsReached N m s t → ((j : ℕ) → j < t.width → zero_ℚ ≤ℚ t.cell l j) → j < s.width → zero_ℚ ≤ℚ (s.cell l j +ℚ sum_to m (λ q. coefficient t l (s.basic q) *ℚ s.cell q j))
+pub dual_column : (N m : ℕ) (s t : Tableau) (l j : ℕ) → IsStart N m s → m ≤ l → l < s.rows → IsRowEquivalent N m s t → ((j : ℕ) → j < t.width → zero_ℚ ≤ℚ t.cell l j) → j < s.width → zero_ℚ ≤ℚ (s.cell l j +ℚ sum_to m (λ q. coefficient t l (s.basic q) *ℚ s.cell q j))
 dual_column N m s t l j st ml hl p h hj =
     let rated : m ≤ s.rows = st.rated in
     let cell : (i : ℕ) → i < s.rows → row s (unit_at (s.nonbasic j)) zero_ℚ i ≡ s.cell i j = λ i hi. coefficient_row s i (s.nonbasic j) ∙ coefficient_cell s i j st.proper hi hj in
     subst (λ u. zero_ℚ ≤ℚ u) (sym (coefficient_row t l (s.nonbasic j)) ∙ last_row N m s t l (unit_at (s.nonbasic j)) zero_ℚ st ml hl p ∙ ap₂ (λ a b. a +ℚ b) (cell l hl) (sum_to-same m _ _ (λ q hq. ap (λ u. coefficient t l (s.basic q) *ℚ u) (cell q (omega arith))))) (coef_nonneg t l (s.nonbasic j) h)
 
-pub dual_right : (N m : ℕ) (s t : Tableau) (l : ℕ) → IsStart N m s → m ≤ l → l < s.rows → IsReached N m s t → t.right l ≡ s.right l +ℚ sum_to m (λ q. coefficient t l (s.basic q) *ℚ s.right q)
+pub dual_right : (N m : ℕ) (s t : Tableau) (l : ℕ) → IsStart N m s → m ≤ l → l < s.rows → IsRowEquivalent N m s t → t.right l ≡ s.right l +ℚ sum_to m (λ q. coefficient t l (s.basic q) *ℚ s.right q)
 dual_right N m s t l st ml hl p =
     let right : (u : Tableau) (i : ℕ) → row u (λ v. zero_ℚ) one_ℚ i ≡ u.right i = λ u i. ap (λ x. x +ℚ (one_ℚ *ℚ u.right i)) (left_zero u i) ∙ ring rational_ring (u.right i ∷ []) (num 0 :+ num 1 :* R.A) R.A refl in
     sym (right t l) ∙ last_row N m s t l (λ v. zero_ℚ) one_ℚ st ml hl p ∙ ap₂ (λ a b. a +ℚ b) (right s l) (sum_to-same m _ _ (λ q hq. ap (λ u. coefficient t l (s.basic q) *ℚ u) (right s q)))
 
 -- ---- the basic solution
-pub value_solves : (N m : ℕ) (s t : Tableau) (k : ℕ) → IsStart N m s → IsReached N m s t → k < s.rows → left s (basic_solution t) k ≡ s.right k
+pub value_solves : (N m : ℕ) (s t : Tableau) (k : ℕ) → IsStart N m s → IsRowEquivalent N m s t → k < s.rows → left s (basic_solution t) k ≡ s.right k
 value_solves N m s t k st p hk =
     combine rational_ring (left s (basic_solution t) k ∷ s.right k ∷ []) ((num 1 times R.A :+ :neg (num 1) :* R.B is num 0) ∷ []) R.A R.B refl (solves_start N m s t (basic_solution t) (neg_ℚ one_ℚ) st p (λ i hi. ap (λ u. u +ℚ (neg_ℚ one_ℚ *ℚ t.right i)) (solution_solves t p.proper i hi) ∙ ring rational_ring (t.right i ∷ []) (R.A :+ :neg (num 1) :* R.A) (num 0) refl) k hk, tt)
 

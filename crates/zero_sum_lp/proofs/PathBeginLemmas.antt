@@ -6,9 +6,9 @@ use Rattle.linear_systems.specs.Tableau.{Tableau}
 use Rattle.rational.proofs.Linear.{linear, lit, ◌⟨<⟩◌}
 use Rattle.linear_systems.specs.Lex.{IsLexPositive}
 use Rattle.linear_systems.specs.Rows.{key, HasDistinctVariables}
-use Rattle.linear_systems.specs.Reached.{IsStart}
+use Rattle.linear_systems.specs.RowEquivalence.{IsStart}
 use Rattle.linear_systems.proofs.RowLemmas.{coefficient_own, coefficient_basic}
-use Rattle.linear_systems.proofs.ReachedTableauLemmas.{reached_start}
+use Rattle.linear_systems.proofs.RowEquivalenceLemmas.{reached_start}
 use Rattle.zero_sum_lp.proofs.ObjectiveGrowthLemmas.{IsLexicographicallyFeasible}
 use Rattle.rational.proofs.Field.{eq_or_lt_of_le}
 

@@ -13,7 +13,7 @@ use Rattle.rational.proofs.Ring as R
 use Rattle.rational.proofs.Rules.{zero_times}
 use Rattle.linear_systems.specs.Tableau.{Tableau, left}
 use Rattle.linear_systems.specs.Rows.{unit_at, HasDistinctVariables}
-use Rattle.linear_systems.specs.Reached.{IsStart}
+use Rattle.linear_systems.specs.RowEquivalence.{IsStart}
 use Rattle.linear_systems.proofs.AgreementLemmas.{alike_distinct}
 use Rattle.linear_systems.proofs.RowLemmas.{unit_self, unit_other, unit_nonneg}
 use Rattle.sequence_forms.specs.Sides.{Side, sequences}

@@ -12,14 +12,14 @@ use Rattle.rational.proofs.Field.{nonneg-mul}
 use Rattle.rational.proofs.SumLemmas.{sum_to-same, sum_to-zeros, sum_to-nonneg, sum_to-only}
 use Rattle.rational.proofs.Rules.{times_zero}
 use Rattle.linear_systems.specs.Rows.{unit_at, row, HasDistinctVariables, IsLexicographicRow}
-use Rattle.linear_systems.specs.Reached.{IsReached, IsStart}
+use Rattle.linear_systems.specs.RowEquivalence.{IsRowEquivalent, IsStart}
 use Rattle.zero_sum_lp.specs.Paths.{IsUnbounded}
 use Rattle.linear_systems.proofs.RowLemmas.{unit_self, unit_other, unit_nonneg}
 use Rattle.zero_sum_lp.proofs.UnitLemmas.{neg_nonneg, sum_unit}
 use Rattle.linear_systems.proofs.LexRowLemmas.{Scan, none, best, scan}
 
 -- ---- what solves a reached tableau solves the start
-pub solves_start : (N m : ℕ) (s t : Tableau) (x : ℕ → ℚ) (y : ℚ) → IsStart N m s → IsReached N m s t → ((i : ℕ) → i < t.rows → row t x y i ≡ zero_ℚ) → (k : ℕ) → k < s.rows → row s x y k ≡ zero_ℚ
+pub solves_start : (N m : ℕ) (s t : Tableau) (x : ℕ → ℚ) (y : ℚ) → IsStart N m s → IsRowEquivalent N m s t → ((i : ℕ) → i < t.rows → row t x y i ≡ zero_ℚ) → (k : ℕ) → k < s.rows → row s x y k ≡ zero_ℚ
 solves_start N m s t x y st p h k hk =
     let rows : t.rows ≡ s.rows = p.rows in
     let rated : m ≤ s.rows = st.rated in
@@ -65,7 +65,7 @@ ray_nonneg t c v h =
         ]
 
 -- ---- the ray of the start
-pub has_ray : (N m : ℕ) (s t : Tableau) (c : ℕ) → IsStart N m s → m < s.rows → IsReached N m s t → c < t.width → t.cell m c <ℚ zero_ℚ → ((i : ℕ) → i < m → t.cell i c ≤ℚ zero_ℚ) → IsUnbounded m s
+pub has_ray : (N m : ℕ) (s t : Tableau) (c : ℕ) → IsStart N m s → m < s.rows → IsRowEquivalent N m s t → c < t.width → t.cell m c <ℚ zero_ℚ → ((i : ℕ) → i < m → t.cell i c ≤ℚ zero_ℚ) → IsUnbounded m s
 has_ray N m s t c st hm p hc neg none_up =
     let rows : t.rows ≡ s.rows = p.rows in
     record {
@@ -76,7 +76,7 @@ has_ray N m s t c st hm p hc neg none_up =
     }
 
 -- where the start has no ray, an improving column has its lexicographic row
-pub leaving_row : (N m : ℕ) (s t : Tableau) (c : ℕ) → IsStart N m s → m < s.rows → (IsUnbounded m s → ⊥) → IsReached N m s t → c < t.width → t.cell m c <ℚ zero_ℚ → (r : ℕ) × IsLexicographicRow m m s.basic t c r
+pub leaving_row : (N m : ℕ) (s t : Tableau) (c : ℕ) → IsStart N m s → m < s.rows → (IsUnbounded m s → ⊥) → IsRowEquivalent N m s t → c < t.width → t.cell m c <ℚ zero_ℚ → (r : ℕ) × IsLexicographicRow m m s.basic t c r
 leaving_row N m s t c st hm bounded p hc neg = go (scan N m m s t c st p (omega arith))
   where
     go : Scan m m s.basic t c → (r : ℕ) × IsLexicographicRow m m s.basic t c r

@@ -13,7 +13,8 @@ TheObjectiveRowGrows =
     → IsPathPivot g t u
     → IsLexLess (suc g.rated) (key g.start.basic t g.rated) (key g.start.basic u g.rated)
 
--- So no basis comes twice, and the path ends: it has fewer steps than there are sets of variables.
+-- So no basis comes twice, and the path ends: it has fewer than 2^bound steps, where all variables are
+-- below the bound.
 abbrev pub PathsEnd : Type 0
 PathsEnd =
     (g : LinearProgram) (n : ℕ) (t : Tableau) → IsFeasibleAndBounded g → IsAfter g n t

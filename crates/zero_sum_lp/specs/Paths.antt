@@ -4,7 +4,7 @@ use Rattle.std.specs.Prelude.{ℕ, zero, suc, ◌<◌, ◌≤◌, ◌≡◌}
 use Rattle.rational.specs.Rational.{ℚ, zero_ℚ, ◌≤ℚ◌, ◌<ℚ◌}
 use Rattle.linear_systems.specs.Tableau.{Tableau, left, pivot}
 use Rattle.linear_systems.specs.Rows.{IsLexicographicRow, Alike}
-use Rattle.linear_systems.specs.Reached.{IsStart}
+use Rattle.linear_systems.specs.RowEquivalence.{IsStart}
 
 -- A linear program as a tableau. The first `rated` rows are its constraints; the row after them is
 -- the objective row, whose variable is to be made greatest. All variables are below `bound`.

@@ -23,7 +23,7 @@ fn gain(least: Frac, cell: Cell) -> Result<Frac, Unfit>
 /// # Errors
 ///
 /// `GainRange` exactly at the first step that does not fit. `Memory` where memory ran out.
-pub fn gains(alloc: Global, least: Frac, cells: &[Cell]) -> Result<Vec<Frac>, LpStop>
+pub(crate) fn gains(alloc: Global, least: Frac, cells: &[Cell]) -> Result<Vec<Frac>, LpStop>
     ensures gains { IfOk result (λ gains. gains.items ≡ map (gain_at least) cells.now) }
     ensures stage { Gives lp_stops.Memory (gains_in least cells.now) (map_ok result (λ _. tt)) }
 {

@@ -14,7 +14,8 @@ ghost use Rattle.zero_sum_lp.specs.Parts.{HasShape, IsOptimum, first_prices, fir
 use crate::raising::raise;
 use crate::stop::PlanStop;
 use crate::trimming::trim;
-use frac128::{Frac, Memory, Unfit};
+use answers::Memory;
+use frac128::{Frac, Unfit};
 use lex_tableau::{Tableau, Work};
 use sequence_data::{Plans, Side};
 use std::alloc::Global;

@@ -62,7 +62,7 @@ fn entering(current: &Tableau, objective: usize, width: usize) -> Option<usize>
 /// # Errors
 ///
 /// The first pivot that has a step that does not fit.
-pub fn follow<L: Ledger>(
+pub(crate) fn follow<L: Ledger>(
     work: &mut Work,
     objective: usize,
     width: usize,

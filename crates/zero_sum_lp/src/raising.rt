@@ -57,7 +57,7 @@ fn raise_set(weights: &mut [Frac], before: usize, first: usize, count: usize) ->
 /// # Errors
 ///
 /// The first step that does not fit.
-pub fn raise(weights: &mut [Frac], side: &Side) -> Result<(), Unfit>
+pub(crate) fn raise(weights: &mut [Frac], side: &Side) -> Result<(), Unfit>
     requires side { IsSideData side.now }
     requires shape { length weights.old ≡ sequences (side_of side.now) }
     ensures length { length weights.new ≡ length weights.old }

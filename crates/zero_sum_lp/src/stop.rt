@@ -1,5 +1,6 @@
 // Why there is no program, and why there are no plans.
-use frac128::{Frac, Memory, Unfit};
+use answers::Memory;
+use frac128::{Frac, Unfit};
 use game_core::TooLarge;
 use lex_tableau::StartStop;
 use std::alloc::{AllocError, AllocFailed};

@@ -14,7 +14,7 @@ use std::alloc::Global;
 /// # Errors
 ///
 /// `SumRange` exactly at the first that does not fit. `Memory` where memory ran out.
-pub fn sums(alloc: Global, leaves: &[Leaf]) -> Result<Vec<Frac>, LpStop>
+pub(crate) fn sums(alloc: Global, leaves: &[Leaf]) -> Result<Vec<Frac>, LpStop>
     ensures sums { IfOk result (λ sums. sums.items ≡ map sum_at leaves.now) }
     ensures stage { Gives lp_stops.Memory (sums_in leaves.now) (map_ok result (λ _. tt)) }
 {
@@ -38,7 +38,7 @@ pub fn sums(alloc: Global, leaves: &[Leaf]) -> Result<Vec<Frac>, LpStop>
 /// # Errors
 ///
 /// The first leaf, and the first of the others whose sum differs.
-pub fn test_constant(leaves: &[Leaf], sums: &[Frac]) -> Result<(), NotConstant>
+pub(crate) fn test_constant(leaves: &[Leaf], sums: &[Frac]) -> Result<(), NotConstant>
     requires some_leaf { 0 < length leaves.now }
     requires sums { sums.now ≡ map sum_at leaves.now }
     ensures { is_constant leaves.now result }

@@ -9,7 +9,8 @@ ghost use Rattle.lex_tableau.specs.Entries.{AreEntries, entry_of};
 ghost use Rattle.zero_sum_lp.specs.Systems.{IsSystemFor, listed_gain, listed_program, listed_reply};
 ghost use Rattle.sequence_data.specs.Matrices.{matrix_size};
 
-use frac128::{Frac, Memory};
+use answers::Memory;
+use frac128::Frac;
 use lex_tableau::{System, numbered};
 use sequence_data::{Side, set_entry};
 use std::alloc::Global;
@@ -104,7 +105,12 @@ fn entries(
 }
 
 /// The system of the program with these gains, row by row.
-pub fn system(alloc: Global, first: &Side, second: &Side, gains: &[Frac]) -> Result<System, Memory>
+pub(crate) fn system(
+    alloc: Global,
+    first: &Side,
+    second: &Side,
+    gains: &[Frac],
+) -> Result<System, Memory>
     requires first_side { IsSideData first.now }
     requires second_side { IsSideData second.now }
     requires gains { length gains.now ≡ matrix_size first.now second.now }

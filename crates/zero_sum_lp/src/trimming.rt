@@ -42,7 +42,7 @@ fn trim_set(weights: &mut [Frac], before: usize, first: usize, count: usize) -> 
 /// # Errors
 ///
 /// The first step that does not fit.
-pub fn trim(weights: &mut [Frac], side: &Side) -> Result<(), Unfit>
+pub(crate) fn trim(weights: &mut [Frac], side: &Side) -> Result<(), Unfit>
     requires side { IsSideData side.now }
     requires shape { length weights.old ≡ sequences (side_of side.now) }
     ensures length { length weights.new ≡ length weights.old }

@@ -5,7 +5,7 @@ ghost use Rattle.rational.specs.Sum.{entry_at};
 use frac128::Frac;
 
 /// The weight of a sequence.
-pub fn weight_at(weights: &[Frac], place: usize) -> Frac
+pub(crate) fn weight_at(weights: &[Frac], place: usize) -> Frac
     requires { place < length weights.now }
     ensures { result ≡ entry_at weights.now place }
 {
@@ -13,7 +13,7 @@ pub fn weight_at(weights: &[Frac], place: usize) -> Frac
 }
 
 /// Gives a sequence a weight.
-pub fn set_weight(weights: &mut [Frac], place: usize, value: Frac)
+pub(crate) fn set_weight(weights: &mut [Frac], place: usize, value: Frac)
     requires { place < length weights.old }
     ensures length { length weights.new ≡ length weights.old }
     ensures here { entry_at weights.new place ≡ value }

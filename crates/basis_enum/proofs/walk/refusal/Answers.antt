@@ -1,6 +1,7 @@
 use Rattle.std.proofs.Common.{inr, sym, subst}
 use Rattle.basis_enum.specs.Children.{IsChildStop}
-use Rattle.basis_enum.specs.Bases.{IsAscendingListOf}
+use Rattle.std.specs.List.{Contains}
+use Rattle.lists.specs.Listed.{AreListed}
 use Rattle.basis_enum.proofs.NextLevelLemmas.{unfit_pivot}
 use Rattle.basis_enum.proofs.walk.refusal.Goals as goal
 
@@ -8,5 +9,5 @@ pub returns-in-Ok : goal.returns-in-Ok
 returns-in-Ok c =
     let e = c.args.expansion.now in
     let stop = subst (IsChildStop e) c.in-Unfit.is c.requires.stop in
-    let ascending = subst (IsAscendingListOf c.basics.result.now) (sym c.new.ensures) c.in-Ok.ensures in
+    let ascending = subst (AreListed (Contains c.basics.result.now)) (sym c.new.ensures) c.in-Ok.ensures in
     inr (unfit_pivot e c.args.number c.in-Unfit.place c.in-Unfit.unfit _ c.basics.result.now c.new.result c.requires.expandable.pivots_are c.requires.entering stop c.basics.ensures ascending)

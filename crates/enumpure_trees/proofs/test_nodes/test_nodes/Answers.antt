@@ -7,4 +7,4 @@ use Rattle.enumpure_trees.proofs.test_nodes.test_nodes.Goals as goal
 pub returns-then-perfect : goal.returns-then-perfect
 returns-then-perfect c =
     let t = game_of_tree c.args.tree.now in
-    IfOk-weaker c.subgame_roots.result _ _ (λ nodes h. subst (λ perfect. AreTestNodes perfect t nodes.items) (sym c.if-perfect.true) (record { ascending = h.ascending; are_all = h.are_all })) c.subgame_roots.ensures
+    IfOk-weaker c.subgame_roots.result _ _ (λ nodes h. subst (λ perfect. AreTestNodes perfect t nodes.items) (sym c.if-perfect.true) h) c.subgame_roots.ensures

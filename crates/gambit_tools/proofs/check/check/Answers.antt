@@ -12,7 +12,7 @@ returns-in_err-bytes g c =
     let p = err_from_is_err_and c.from_residual.result c.from_residual.ensures.1 in
     let e = c.in_err-bytes.ensures in
     rw (p.1, p.2) (first-refused c.args.strategic (string_bytes c.args.game) (option_map string_bytes c.args.lines) (g.I.Inputs.seen c.args.inputs.now) (g.I.Inputs.seen c.read_input.new.inputs) c.in_err-bytes.field-0.0
-    e.refused e.counts e.selections e.held)
+    e.refused e.counts e.selections e.ends e.held)
 
 pub returns-in_err-lines : goal.returns-in_err-lines
 returns-in_err-lines g c =
@@ -23,7 +23,7 @@ returns-in_err-lines g c =
     let between = g.I.Inputs.seen c.read_input.new.inputs in
     let one : IsAfterOne before between = record { opening = o.open_faults; reading = o.read_faults; once = o.selections; ends = o.ends; stay = o.held } in
     rw (p.1, p.2) (second-refused c.args.strategic (string_bytes c.args.game) (option_map string_bytes c.args.lines) before between (g.I.Inputs.seen c.read_input-2.new.inputs) c.in_ok-bytes.bytes.items
-    c.in_err-lines.field-0.0 one o.bytes o.within_limit e.refused e.counts e.selections e.held)
+    c.in_err-lines.field-0.0 one o.bytes o.within_limit e.refused e.counts e.selections e.ends e.held)
 
 pub returns-in_err-game : goal.returns-in_err-game
 returns-in_err-game g c =

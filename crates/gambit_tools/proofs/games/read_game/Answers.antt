@@ -19,7 +19,7 @@ returns-in_err-bytes g c =
     let before = g.I.Inputs.seen c.args.inputs.now in
     let after = g.I.Inputs.seen c.read_input.new.inputs in
     let e = c.in_err-bytes.ensures in
-    let refuse : RefuseGame name before after c.in_err-bytes.field-0.0 = λ command one. refused-computed command name before after c.in_err-bytes.field-0.0 one e.refused e.counts e.selections e.held in
+    let refuse : RefuseGame name before after c.in_err-bytes.field-0.0 = λ command one. refused-computed command name before after c.in_err-bytes.field-0.0 one e.refused e.counts e.selections e.ends e.held in
     rw (p.1, p.2) refuse
 
 pub returns : goal.returns

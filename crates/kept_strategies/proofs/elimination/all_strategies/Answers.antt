@@ -1,8 +1,9 @@
 use Rattle.std.proofs.Common.{◌+◌, ◌<◌, inl, inr, sym, subst, arith}
 use Rattle.std.proofs.lemmas.Bool.{cases_eq}
-use Rattle.extreme_equilibria.specs.Elimination.{AreListed, IsKeptAfter}
+use Rattle.lists.specs.Listed.{AreListed}
+use Rattle.extreme_equilibria.specs.Elimination.{IsKeptAfter}
 use Rattle.game_core.specs.Table.{game_of}
-use Rattle.extreme_equilibria.proofs.KeptListLemmas.{listed-push, listed-same}
+use Rattle.lists.proofs.ListedLemmas.{listed-push, listed-same}
 use Rattle.kept_strategies.proofs.EliminationLemmas.{none-listed}
 use Rattle.kept_strategies.proofs.elimination.all_strategies.Goals as goal
 

@@ -1,5 +1,5 @@
 use Rattle.std.proofs.Common.{◌<◌}
-use Rattle.extreme_equilibria.specs.Elimination.{AreListed}
+use Rattle.lists.specs.Listed.{AreListed}
 use Rattle.kept_strategies.proofs.elimination.all_strategies.Given as goal
 
 abbrev pub invariant-loop-strategy : goal.invariant-loop-strategy

@@ -1,7 +1,8 @@
 use Rattle.std.proofs.Common.{ℕ, ◌+◌, ◌<◌, ◌≡◌, ◌⊎◌, List, length, take, sym, subst, ap, ◌∙◌, arith}
 use Rattle.std.specs.Prelude.{Contains}
 use Rattle.std.proofs.lemmas.List.{take_all}
-use Rattle.extreme_equilibria.specs.Elimination.{AreListed, IsDominated}
+use Rattle.lists.specs.Listed.{AreListed}
+use Rattle.extreme_equilibria.specs.Elimination.{IsDominated}
 use Rattle.game_core.specs.Table.{game_of}
 use Rattle.kept_strategies.proofs.EliminationLemmas.{stays-listed, stays-count, goes-listed, goes-count}
 use Rattle.kept_strategies.proofs.elimination.undominated_among.Goals as goal

@@ -1,6 +1,7 @@
 use Rattle.std.proofs.Common.{◌<◌, ◌≡◌, ◌⊎◌, length, take}
 use Rattle.std.specs.Prelude.{Contains}
-use Rattle.extreme_equilibria.specs.Elimination.{AreListed, IsDominated}
+use Rattle.lists.specs.Listed.{AreListed}
+use Rattle.extreme_equilibria.specs.Elimination.{IsDominated}
 use Rattle.game_core.specs.Table.{game_of}
 use Rattle.kept_strategies.proofs.elimination.undominated_among.Given as goal
 

@@ -2,9 +2,10 @@ use Rattle.std.proofs.Common.{◌≢◌, ◌+◌, ◌<◌, add-one, suc, refl, s
 use Rattle.rational.specs.Rational.{zero_ℚ}
 use Rattle.rational.proofs.InverseLemmas.{ne_zero_of_pos}
 use Rattle.linear_systems.specs.Rows.{basic_solution}
+use Rattle.lists.specs.Listed.{IsIndexOf}
 use Rattle.lex_tableau.specs.Pivots.{pivot_number}
 use Rattle.lex_tableau.proofs.PivotNumberLemmas.{pivot_number_next}
-use Rattle.lex_tableau.specs.Rows.{WholeTableau, tableau, IsNonbasicColumn}
+use Rattle.lex_tableau.specs.Rows.{WholeTableau, tableau}
 use Rattle.lemke_pivot.specs.ProblemPaths.{complement, z0_of}
 use Rattle.lemke_pivot.proofs.KeptWalkLemmas.{z0_entry, walk_value, walk_bound, walk_solved, walk_stands, walk_variable, walk_best, walk_never, walk_next, walk_stops}
 use Rattle.lemke_pivot.proofs.path.walk.Goals as goal
@@ -29,7 +30,7 @@ unreachable-requires-in_default-ratio_row g c =
     let l = c.loop-size in let o = l.invariant.path in
     let v = walk_value c.args.size c.args.first c.args.work.now c.requires.start l.work l.entering c.args.pivots.now l.pivots l.step o c.now.result.now (c.args.size + c.args.size + 1) c.value.result c.now.ensures.value (omega arith) c.value.ensures.value in
     let ne : basic_solution (tableau l.work) (z0_of c.args.size) ≢ zero_ℚ = λ e. true≢false (sym (c.is_zero.ensures.1 (v ∙ e)) ∙ c.if-is_zero.false) in
-    let column : IsNonbasicColumn l.work l.entering (Some c.in-Some.column) = subst (λ m. IsNonbasicColumn m l.entering (Some c.in-Some.column)) c.now-in-loop-size.ensures.value c.in-Some.ensures.column in
+    let column : IsIndexOf l.work.nonbasics l.entering (Some c.in-Some.column) = subst (λ (m : WholeTableau). IsIndexOf m.nonbasics l.entering (Some c.in-Some.column)) c.now-in-loop-size.ensures.value c.in-Some.ensures.column in
     walk_never c.args.size c.args.first c.args.work.now c.requires.start l.work l.entering c.args.pivots.now l.pivots l.step o ne c.now-in-loop-size-2.result.now c.in-Some.column c.now-in-loop-size-2.ensures.value column c.in_default-ratio_row.ensures.best
 
 pub pivot-requires-in-loop-size-clause-entry : goal.pivot-requires-in-loop-size-clause-entry
@@ -45,7 +46,7 @@ returns-in-Err-pivot-clause-unfit g c =
     let l = c.loop-size in let o = l.invariant.path in
     let v = walk_value c.args.size c.args.first c.args.work.now c.requires.start l.work l.entering c.args.pivots.now l.pivots l.step o c.now.result.now (c.args.size + c.args.size + 1) c.value.result c.now.ensures.value (omega arith) c.value.ensures.value in
     let ne : basic_solution (tableau l.work) (z0_of c.args.size) ≢ zero_ℚ = λ e. true≢false (sym (c.is_zero.ensures.1 (v ∙ e)) ∙ c.if-is_zero.false) in
-    let column : IsNonbasicColumn l.work l.entering (Some c.in-Some.column) = subst (λ m. IsNonbasicColumn m l.entering (Some c.in-Some.column)) c.now-in-loop-size.ensures.value c.in-Some.ensures.column in
+    let column : IsIndexOf l.work.nonbasics l.entering (Some c.in-Some.column) = subst (λ (m : WholeTableau). IsIndexOf m.nonbasics l.entering (Some c.in-Some.column)) c.now-in-loop-size.ensures.value c.in-Some.ensures.column in
     walk_stops c.args.size c.args.first c.args.work.now c.requires.start l.work l.entering c.args.pivots.now l.pivots l.step o ne c.in-Some.column c.in-Some-ratio_row.row column
     (walk_best c.args.size c.args.first c.args.work.now c.requires.start l.work l.entering c.args.pivots.now l.pivots l.step o ne c.now-in-loop-size-2.result.now c.in-Some.column c.in-Some-ratio_row.row c.now-in-loop-size-2.ensures.value c.in-Some-ratio_row.ensures.best)
     c.saturating_add-step.result c.in-Err-pivot.unfit (c.saturating_add-step.ensures ∙ ap pivot_number (add-one l.step) ∙ ap (λ k. pivot_number (suc k)) o.number ∙ pivot_number_next (suc (length o.earlier))) c.in-Err-pivot.ensures.unfit
@@ -89,7 +90,7 @@ loop-size-preserved g c =
     let v = walk_value c.args.size c.args.first c.args.work.now c.requires.start l.work l.entering c.args.pivots.now l.pivots l.step o c.now.result.now (c.args.size + c.args.size + 1) c.value.result c.now.ensures.value (omega arith) c.value.ensures.value in
     let ne : basic_solution (tableau l.work) (z0_of c.args.size) ≢ zero_ℚ = λ e. true≢false (sym (c.is_zero.ensures.1 (v ∙ e)) ∙ c.if-is_zero.false) in
     let L = walk_best c.args.size c.args.first c.args.work.now c.requires.start l.work l.entering c.args.pivots.now l.pivots l.step o ne c.now-in-loop-size-2.result.now c.in-Some.column c.in-Some-ratio_row.row c.now-in-loop-size-2.ensures.value c.in-Some-ratio_row.ensures.best in
-    let column : IsNonbasicColumn l.work l.entering (Some c.in-Some.column) = subst (λ m. IsNonbasicColumn m l.entering (Some c.in-Some.column)) c.now-in-loop-size.ensures.value c.in-Some.ensures.column in
+    let column : IsIndexOf l.work.nonbasics l.entering (Some c.in-Some.column) = subst (λ (m : WholeTableau). IsIndexOf m.nonbasics l.entering (Some c.in-Some.column)) c.now-in-loop-size.ensures.value c.in-Some.ensures.column in
     let left = c.basic-leaving.ensures ∙ ap (λ (m : WholeTableau). (tableau m).basic c.in-Some-ratio_row.row) c.now-in-loop-size-3.ensures.value in
     record {
       size = l.invariant.size;

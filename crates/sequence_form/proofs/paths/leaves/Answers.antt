@@ -16,6 +16,6 @@ loop-node-preserved c =
     elim c.if-is_none.branch [
       | then-is_none+in_ok-push w ↦ (
           let is = w.index-paths-node.is ∙ ap (λ xs. get_or xs n w.index-paths-node.result) c.requires ∙ get_or-map-range_with_len (leaf_at g) 0 (length c.args.tree.now.nodes) n n w.index-paths-node.result (omega (arith, ap length c.nodes-nodes.ensures.nodes)) (omega arith) in
-          ap (λ v. v.items) w.leaves-is ∙ w.in_ok-push.ensures.items ∙ ap (λ xs. xs ++ w.index-paths-node.result ∷ []) c.loop-node.invariant ∙ ap (λ x. map (leaf_at g) (first_leaves g n) ++ x ∷ []) is ∙ sym (leaves-more g n c.set.result c.set.ensures w.if-is_none.ensures))
-      | else-is_none w ↦ ap (λ v. v.items) w.leaves-is ∙ c.loop-node.invariant ∙ sym (leaves-same g n c.set.result c.set.ensures w.if-is_none.ensures)
+          ap (λ v. v.items) w.leaves-is ∙ w.in_ok-push.ensures.items ∙ ap (λ xs. xs ++ w.index-paths-node.result ∷ []) c.loop-node.invariant ∙ ap (λ x. map (leaf_at g) (first_leaves g n) ++ x ∷ []) is ∙ sym (leaves-more g n c.set_at.result c.set_at.ensures w.if-is_none.ensures))
+      | else-is_none w ↦ ap (λ v. v.items) w.leaves-is ∙ c.loop-node.invariant ∙ sym (leaves-same g n c.set_at.result c.set_at.ensures w.if-is_none.ensures)
     ]

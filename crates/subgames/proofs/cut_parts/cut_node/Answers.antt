@@ -2,8 +2,8 @@ use Rattle.std.proofs.Common.{ℕ, ◌≡◌, ◌<◌, ◌∙◌, List, None, So
 use Rattle.std.specs.Prelude.{◌==◌}
 use Rattle.lists.proofs.NumberLemmas.{unequal}
 use Rattle.game_core.specs.TreeGame.{game_of_tree}
-use Rattle.subgames.specs.CutParts.{IsIndexOf}
-use Rattle.subgames.proofs.CutListLemmas.{index-once}
+use Rattle.lists.specs.Listed.{IsIndexOf}
+use Rattle.lists.proofs.ListedLemmas.{index-once}
 use Rattle.subgames.proofs.cut_parts.cut_node.Goals as goal
 
 pub returns : goal.returns

@@ -10,7 +10,7 @@ returns-else-is_none c =
     let t = c.args.tree.now in
     let g = game_of_tree t in
     let s = c.in-Some.set in
-    let at = sym c.set.ensures ∙ c.in-Some.is in
+    let at = sym c.set_at.ensures ∙ c.in-Some.is in
     let below = c.stands_for_game_tree.ensures.game.sets_within c.args.node s c.requires at in
     let fits = set-read t s c.index-sets-set.result c.sets.result.now c.stands_for_game_tree.ensures.valid below c.sets.ensures.sets c.index-sets-set.is in
     begins_alone-of_player g c.args.node s c.members.result.now c.requires at

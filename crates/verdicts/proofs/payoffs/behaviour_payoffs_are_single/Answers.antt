@@ -3,7 +3,7 @@ use Rattle.answers.proofs.AnswerLemmas.{refused_by-single}
 use Rattle.frac128.specs.FirstUnfit.{all_fit}
 use Rattle.frac128.proofs.FirstUnfitLemmas.{all_fit-single}
 use Rattle.verdicts.specs.TreeSteps.{now_steps_at}
-use Rattle.verdicts.specs.declared.payoffs.PayoffsStop.TheVariants as stops
+use Rattle.pure_payoffs.specs.declared.stop.PayoffStop.TheVariants as stops
 use Rattle.verdicts.proofs.payoffs.behaviour_payoffs_are_single.Goals as goal
 
 pub returns : goal.returns

@@ -25,16 +25,16 @@ with_branch-returns-clause-gives t c =
 pub value_at-returns-in_err-value_after-in-Some-clause-gives : goal.value_at-returns-in_err-value_after-in-Some-clause-gives
 value_at-returns-in_err-value_after-in-Some-clause-gives t c =
     let p = err_from_is_err_and c.from_residual.result c.from_residual.ensures.1 in
-    rw (p.1, p.2) (following-refused _ _ c.args.player c.requires.play.tree (play-chooses _ _ _ c.requires.play) c.args.node c.requires.node _ (sym c.set.ensures ∙ c.in-Some.is) _ c.in_err-value_after-in-Some.ensures.gives)
+    rw (p.1, p.2) (following-refused _ _ c.args.player c.requires.play.tree (play-chooses _ _ _ c.requires.play) c.args.node c.requires.node _ (sym c.set_at.ensures ∙ c.in-Some.is) _ c.in_err-value_after-in-Some.ensures.gives)
 
 pub value_at-returns-in_ok-value_after-in-Some-clause-gives : goal.value_at-returns-in_ok-value_after-in-Some-clause-gives
 value_at-returns-in_ok-value_after-in-Some-clause-gives t c =
     let following = c.in_ok-value_after-in-Some.ensures.gives in
-    node-added _ _ c.args.player c.requires.play.tree (play-chooses _ _ _ c.requires.play) c.args.node c.requires.node _ (sym c.set.ensures ∙ c.in-Some.is) _ _ _ c.pays-pays.ensures following.0 following.1 c.add.ensures.value c.add.ensures.fits c.add.ensures.step c.add.ensures.unfit
+    node-added _ _ c.args.player c.requires.play.tree (play-chooses _ _ _ c.requires.play) c.args.node c.requires.node _ (sym c.set_at.ensures ∙ c.in-Some.is) _ _ _ c.pays-pays.ensures following.0 following.1 c.add.ensures.value c.add.ensures.fits c.add.ensures.step c.add.ensures.unfit
 
 pub value_at-returns-in-None-clause-gives : goal.value_at-returns-in-None-clause-gives
 value_at-returns-in-None-clause-gives t c =
-    end-gives _ _ c.args.player c.requires.play.tree (play-chooses _ _ _ c.requires.play) c.args.node c.requires.node _ (sym c.set.ensures ∙ c.in-None.is) c.pays-pays.ensures
+    end-gives _ _ c.args.player c.requires.play.tree (play-chooses _ _ _ c.requires.play) c.args.node c.requires.node _ (sym c.set_at.ensures ∙ c.in-None.is) c.pays-pays.ensures
 
 -- the owner chooses one of the set's actions
 chosen : (t : ℕ) (c : goal.value_after-After-index-self-node t) → c.action_at-action.result < (game_of c.args.self.now).actions c.args.set

@@ -62,7 +62,7 @@ made_nodes-requires-clause-few c =
 pub made_nodes-requires-clause-ascending : goal.made_nodes-requires-clause-ascending
 made_nodes-requires-clause-ascending c =
     let b = (goal.at.made_nodes-requires-clause-ascending c).After-as_slice-cut in
-    (are_nodes b).1.ascending
+    (are_nodes b).1.are_nodes.ascending
 
 pub made_nodes-requires-clause-sets : goal.made_nodes-requires-clause-sets
 made_nodes-requires-clause-sets c =

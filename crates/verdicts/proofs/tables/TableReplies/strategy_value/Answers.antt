@@ -10,7 +10,7 @@ use Rattle.frac128.specs.Steps.{IsFirstUnfit, StepFits}
 use Rattle.verdicts.specs.TableReplies.{game_at, mixed_at}
 use Rattle.verdicts.specs.TableChecks.{steps_at}
 use Rattle.best_replies.specs.Strategies.{value_below}
-use Rattle.verdicts.proofs.TableBlockLemmas.{IsReached, start, at_first, block-within, block-played, next, block-unfit, done}
+use Rattle.verdicts.proofs.TableBlockLemmas.{IsRowEquivalent, start, at_first, block-within, block-played, next, block-unfit, done}
 use Rattle.verdicts.proofs.TablePartLemmas.{player-within, profiles-are}
 use Rattle.frac128.proofs.StepPartLemmas.{steps_of}
 use Rattle.verdicts.proofs.tables.TableReplies.strategy_value.Goals as goal
@@ -40,12 +40,12 @@ overflow_mul-first c =
 
 pub loop-first-init : goal.loop-first-init
 loop-first-init c = λ some player strategy.
-    subst (λ v. IsReached (game_at c.args.self.now) (mixed_at c.args.self.now) c.args.self.now.player c.args.strategy player strategy some v (c.args.strategy * c.stride-stride.result)) (sym c.zero-value.ensures)
+    subst (λ v. IsRowEquivalent (game_at c.args.self.now) (mixed_at c.args.self.now) c.args.self.now.player c.args.strategy player strategy some v (c.args.strategy * c.stride-stride.result)) (sym c.zero-value.ensures)
     (start (game_at c.args.self.now) (mixed_at c.args.self.now) c.args.self.now.player c.args.strategy player strategy some (c.args.strategy * c.stride-stride.result) (ap (λ d. c.args.strategy * d) c.stride-stride.ensures))
 
 -- the blocks so far
 reached : (c : In-loop-first) → (p : c.args.self.now.player < length (strategy_counts c.args.self.now.table.now)) (q : 0 < stride (strategy_counts c.args.self.now.table.now) c.args.self.now.player)
-    → IsReached (game_at c.args.self.now) (mixed_at c.args.self.now) c.args.self.now.player c.args.strategy p c.requires.strategy q c.loop-first.value c.loop-first.first
+    → IsRowEquivalent (game_at c.args.self.now) (mixed_at c.args.self.now) c.args.self.now.player c.args.strategy p c.requires.strategy q c.loop-first.value c.loop-first.first
 reached c p q = c.loop-first.invariant q p c.requires.strategy
 
 is_next : (c : In-loop-first) → length c.payoffs.result.now / length c.players.result.now ≡ profile_count (strategy_counts c.args.self.now.table.now) → c.loop-first.first < profile_count (strategy_counts c.args.self.now.table.now)
@@ -110,7 +110,7 @@ loop-first-preserved c = λ some player strategy.
     let g = game_at c.args.self.now in
     let m = mixed_at c.args.self.now in
     let step : stride (strategy_counts c.args.self.now.table.now) c.args.self.now.player * get_or (strategy_counts c.args.self.now.table.now) c.args.self.now.player 0 ≡ c.stride-stride.result * c.strategy_count.result = ap₂ (λ x y. x * y) (sym c.stride-stride.ensures) (sym c.strategy_count.ensures.count) in
-    subst (λ x. IsReached g m c.args.self.now.player c.args.strategy player strategy some c.in_ok-value.value (c.loop-first.first + x)) step
+    subst (λ x. IsRowEquivalent g m c.args.self.now.player c.args.strategy player strategy some c.in_ok-value.value (c.loop-first.first + x)) step
     (next g m c.args.self.now.player c.args.strategy player strategy some c.loop-first.value c.loop-first.first (c.loop-first.invariant some player strategy) c.in_ok-value.value (is_next (goal.at.loop-first-preserved c).In-loop-first (all a))
     (subst (λ d. c.in_ok-value.value ≡ value_below g m c.args.self.now.player c.args.strategy (c.loop-first.first + d)) c.stride-stride.ensures c.in_ok-value.ensures.0)
     (subst (λ d. All StepFits (steps_of (steps_at g m c.args.self.now.player c.args.strategy) c.loop-first.first d)) c.stride-stride.ensures c.in_ok-value.ensures.1))

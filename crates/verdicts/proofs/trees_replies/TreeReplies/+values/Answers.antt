@@ -69,7 +69,7 @@ value-returns t c = λ b choice first decided from.
 
 pub value_after-bounds-values-child : goal.value_after-bounds-values-child
 value_after-bounds-values-child t c =
-    let set = sym c.set.ensures ∙ c.in-Some.is in
+    let set = sym c.set_at.ensures ∙ c.in-Some.is in
     let own = (is_own-told (game_at c.args.self.now) c.args.self.now.player c.in-Some.set _ c.is_own.ensures).0 c.if-is_own.true in
     let below = c.requires.choices.within c.in-Some.set (c.requires.replies.tree.sets_within c.args.node c.in-Some.set c.requires.node set) own in
     let found = child-found (λ v. v.items) _ c.args.self.now.children.now c.args.node c.in-Some.set _ c.index-self-node.result c.index-child.result.now c.requires.replies.tree c.requires.replies.children_are c.requires.node set below c.index-child.ensures in
@@ -77,7 +77,7 @@ value_after-bounds-values-child t c =
 
 pub value_after-returns-then-is_own : goal.value_after-returns-then-is_own
 value_after-returns-then-is_own t c = λ b choice first decided from.
-    let set = sym c.set.ensures ∙ c.in-Some.is in
+    let set = sym c.set_at.ensures ∙ c.in-Some.is in
     let own = (is_own-told (game_at c.args.self.now) c.args.self.now.player c.in-Some.set _ c.is_own.ensures).0 c.if-is_own.true in
     let below = c.requires.choices.within c.in-Some.set (c.requires.replies.tree.sets_within c.args.node c.in-Some.set c.requires.node set) own in
     let found = child-found (λ v. v.items) _ c.args.self.now.children.now c.args.node c.in-Some.set _ c.index-self-node.result c.index-child.result.now c.requires.replies.tree c.requires.replies.children_are c.requires.node set below c.index-child.ensures in
@@ -86,4 +86,4 @@ value_after-returns-then-is_own t c = λ b choice first decided from.
 
 pub value_after-returns-else-is_own : goal.value_after-returns-else-is_own
 value_after-returns-else-is_own t c = λ b choice first decided from.
-    other-gives _ b c.args.self.now.player choice c.requires.replies.tree c.args.node c.in-Some.set _ (sym c.set.ensures ∙ c.in-Some.is) (λ o. cc ((is_own-told (game_at c.args.self.now) c.args.self.now.player c.in-Some.set _ c.if-is_own.ensures).1 o)) (c.children_sum.ensures b choice first decided from)
+    other-gives _ b c.args.self.now.player choice c.requires.replies.tree c.args.node c.in-Some.set _ (sym c.set_at.ensures ∙ c.in-Some.is) (λ o. cc ((is_own-told (game_at c.args.self.now) c.args.self.now.player c.in-Some.set _ c.if-is_own.ensures).1 o)) (c.children_sum.ensures b choice first decided from)

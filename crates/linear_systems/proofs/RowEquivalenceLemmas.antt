@@ -7,7 +7,7 @@ use Rattle.rational.proofs.RationalRing.{rational_ring}
 use Rattle.rational.proofs.Ring.{◌times◌is◌, combine, ring, num, ◌:+◌, ◌:*◌, ◌:-◌, :neg, A, B, C, D, E, F}
 use Rattle.rational.proofs.Field.{*ℚ-inv}
 use Rattle.linear_systems.specs.Rows.{row, HasDistinctVariables, Alike}
-use Rattle.linear_systems.specs.Reached.{IsCombination, IsVariableOf, in_row, in_column, IsReached, IsStart}
+use Rattle.linear_systems.specs.RowEquivalence.{IsCombination, IsVariableOf, in_row, in_column, IsRowEquivalent, IsStart}
 use Rattle.linear_systems.proofs.PivotLemmas.{eqb_same, eqb_apart}
 use Rattle.linear_systems.proofs.RowLemmas.{row_same, row_other, row_alike}
 use Rattle.linear_systems.proofs.SpanLemmas.{spanned_same, spanned_none, spanned_row, spanned_mix, spanned_scale, spanned_trans}
@@ -81,7 +81,7 @@ pivoted_back m t r c hr hc ne k hk =
     ]
 
 -- ---- reached tableaux
-pub reached_start : (N m : ℕ) (s : Tableau) → IsStart N m s → IsReached N m s s
+pub reached_start : (N m : ℕ) (s : Tableau) → IsStart N m s → IsRowEquivalent N m s s
 reached_start N m s a =
     record {
       rows = refl;
@@ -96,7 +96,7 @@ reached_start N m s a =
       nonbasic_below = a.nonbasic_below;
     }
 
-pub reached_pivot : (N m : ℕ) (s t : Tableau) (r c : ℕ) → m ≤ s.rows → r < m → c < t.width → t.cell r c ≢ zero_ℚ → IsReached N m s t → IsReached N m s (pivot t r c)
+pub reached_pivot : (N m : ℕ) (s t : Tableau) (r c : ℕ) → m ≤ s.rows → r < m → c < t.width → t.cell r c ≢ zero_ℚ → IsRowEquivalent N m s t → IsRowEquivalent N m s (pivot t r c)
 reached_pivot N m s t r c hm hr hc ne a =
     let same_rows : t.rows ≡ s.rows = a.rows in
     let same_width : t.width ≡ s.width = a.width in
@@ -115,7 +115,7 @@ reached_pivot N m s t r c hm hr hc ne a =
     }
 
 -- a tableau in memory need agree with the reached one only where it has cells
-pub reached_alike : (N m : ℕ) (s t u : Tableau) → m ≤ s.rows → Alike t u → IsReached N m s t → IsReached N m s u
+pub reached_alike : (N m : ℕ) (s t u : Tableau) → m ≤ s.rows → Alike t u → IsRowEquivalent N m s t → IsRowEquivalent N m s u
 reached_alike N m s t u hm l a =
     let same_rows : t.rows ≡ s.rows = a.rows in
     let same_width : t.width ≡ s.width = a.width in

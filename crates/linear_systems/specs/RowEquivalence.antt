@@ -1,4 +1,4 @@
--- Tableaux that pivots on the first m rows reach from a start, by what pivots keep
+-- Row equivalence of tableaux, which pivots on the first m rows keep
 use Rattle.std.specs.Prelude.{ℕ, ◌<◌, ◌≤◌, ◌≡◌}
 use Rattle.rational.specs.Rational.{ℚ, ◌*ℚ◌, ◌-ℚ◌}
 use Rattle.rational.specs.Sum.{sum_to}
@@ -16,9 +16,10 @@ pub data IsVariableOf (t : Tableau) (v : ℕ) : Type 0 where
   in_row : (i : ℕ) → i < t.rows → t.basic i ≡ v → IsVariableOf t v
   in_column : (j : ℕ) → j < t.width → t.nonbasic j ≡ v → IsVariableOf t v
 
--- t's first m rows and those of s are sums of multiples of each other, and every later row of t is
--- that of s and such a sum; no variable stands twice, and all are below N
-pub record IsReached (N m : ℕ) (s t : Tableau) : Type 0 where
+-- t is row-equivalent to s, and has its variables: the first m rows of t and those of s are sums of
+-- multiples of each other, and every later row of t is that of s and such a sum; no variable stands
+-- twice, and all are below N
+pub record IsRowEquivalent (N m : ℕ) (s t : Tableau) : Type 0 where
   pub rows : t.rows ≡ s.rows
   pub width : t.width ≡ s.width
   pub proper : HasDistinctVariables t

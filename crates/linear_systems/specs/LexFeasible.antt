@@ -1,21 +1,21 @@
--- What pivots on lexicographic rows reach from a start whose right sides are not negative, all rows
--- rated
+-- Lexicographically feasible tableaux, which pivots on lexicographic rows lead to from a start whose
+-- right sides are not negative, all rows rated
 use Rattle.std.specs.Prelude.{ℕ, suc, ◌<◌, ◌≡◌, ◌≢◌}
 use Rattle.rational.specs.Rational.{zero_ℚ, ◌≤ℚ◌}
 use Rattle.linear_systems.specs.Tableau.{Tableau}
 use Rattle.linear_systems.specs.Lex.{IsLexPositive}
 use Rattle.linear_systems.specs.Rows.{key, IsLexicographicRow}
-use Rattle.linear_systems.specs.Reached.{IsStart, IsReached, IsVariableOf}
+use Rattle.linear_systems.specs.RowEquivalence.{IsStart, IsRowEquivalent, IsVariableOf}
 
 -- a start with all rows rated and no negative right side: its basic solution is feasible
 pub record IsFeasibleStart (N : ℕ) (s : Tableau) : Type 0 where
   pub start : IsStart N s.rows s
   pub right : (i : ℕ) → i < s.rows → zero_ℚ ≤ℚ s.right i
 
--- t is reached from s, its variables are those of s, and the keys of its rows are lexicographically
--- positive
-pub record IsLexReached (N : ℕ) (s t : Tableau) : Type 0 where
-  pub reached : IsReached N s.rows s t
+-- t is row-equivalent to s, its variables are those of s, and the keys of its rows are
+-- lexicographically positive
+pub record IsLexFeasible (N : ℕ) (s t : Tableau) : Type 0 where
+  pub reached : IsRowEquivalent N s.rows s t
   pub variables : (v : ℕ) → IsVariableOf t v → IsVariableOf s v
   pub keys : (i : ℕ) → i < s.rows → IsLexPositive (suc s.rows) (key s.basic t i)
 

@@ -1,4 +1,0 @@
-use Rattle.game_core.proofs.tree_parts.stands_for_game_tree.Goals as goal
-
-pub returns-clause-numbered : goal.returns-clause-numbered
-returns-clause-numbered c = c.sets_are_numbered_by_first_nodes.ensures c.args.tree.now c.title.ensures.valid
