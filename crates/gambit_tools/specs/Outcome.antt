@@ -63,16 +63,17 @@ abbrev pub with_ends : ℕ → ℕ → ℕ
 with_ends ends zero = ends
 with_ends ends (suc more) = count_of_more ends (suc more)
 
--- the inputs before a place among these names were read to their ends and have no more bytes than an
--- input may have; then the one at the place was selected, and none of them was selected again
+-- before what was done at a place among these names the end was met in as many selections as there are
+-- names before it, and one selection more was made; where bytes are told, the inputs with these names
+-- before it have no more of them than an input may have
 pub record IsInTurn (names : List InputName) (place : ℕ) (before after : InputsSeen) : Type 0 where
   pub selections : after.selections ≡ count_of_more before.selections (suc place)
   pub ends : after.ends ≡ with_ends before.ends place
   pub within_limit : (k : ℕ) (name : InputName) (bytes : List ℕ) → k < place
       → slice_get names k ≡ Some name → before.held name ≡ Some bytes → length bytes ≤ most_bytes
 
--- what was read of inputs with these names where the one with this name could not be read, or not to its
--- end: it came in its turn
+-- an input with this name, which could not be opened or read, or is too long, came in its turn among
+-- these names
 abbrev pub ComesInTurn : List InputName → InputName → InputsSeen → InputsSeen → Type 0
 ComesInTurn names name before after =
     (place : ℕ) × (slice_get names place ≡ Some name) × IsInTurn names place before after
