@@ -55,14 +55,26 @@ def total(wanted):
     return f"{len(wanted)} files, {sum(count for count, _ in wanted.values())} definitions"
 
 
+def minutes_of(part):
+    return sum(int(minutes) for _, _, minutes in ROW.findall(part))
+
+
+def heart(page):
+    """What the page says of its first two parts."""
+    parts = [part for heading, part in PART.findall(page) if heading.startswith(("## 1. ", "## 2. "))]
+    return f"The first two parts, {sum(map(minutes_of, parts))} minutes"
+
+
 def sum_breaches(page, wanted):
     """The page says how many files, definitions and minutes there are, and the minutes of each part."""
     if total(wanted) not in page:
         yield f"it does not say: {total(wanted)}"
     for heading, part in PART.findall(page):
-        minutes = sum(int(found) for _, _, found in ROW.findall(part))
+        minutes = minutes_of(part)
         if minutes and f"{minutes} minutes" not in heading:
             yield f"the part '{heading}' takes {minutes} minutes"
+    if heart(page) not in page:
+        yield f"it does not say: {heart(page)}"
 
 
 def toolchain_breaches(page, items):
@@ -79,11 +91,12 @@ def with_numbers(page, wanted):
         return f"| `{found.group(1)}` | {count} | {minutes} |"
 
     def part(found):
-        minutes = sum(int(each) for _, _, each in ROW.findall(found.group()))
+        minutes = minutes_of(found.group())
         return re.sub(r"\d+ minutes", f"{minutes} minutes", found.group(), count=1) if minutes else found.group()
 
     page = re.sub(r"\d+ files, \d+ definitions", total(wanted), ROW.sub(row, page))
-    return PART.sub(part, page)
+    page = PART.sub(part, page)
+    return re.sub(r"The first two parts, \d+ minutes", heart(page), page)
 
 
 def main():

@@ -10,7 +10,7 @@ import sys
 from collections import defaultdict
 
 GENERATED = {"Answers.antt", "Invariants.antt", "Proof.antt", "Lib.antt"}
-LEMMA = re.compile(r"(?:pub )?([^\s:(]+) : (.*)")
+LEMMA = re.compile(r"(?:pub )?([^\s:(]+) :(?: (.*))?")
 BINDER = re.compile(r"[({]([\w' ]+?) : |λ ([\w' ]+?)\.")
 WORD = re.compile(r"([\w'ℕℤℚ]+)")
 
@@ -22,12 +22,12 @@ def lemmas(path):
         found = LEMMA.fullmatch(line)
         if not found:
             continue
-        statement = found.group(2)
+        statement = [found.group(2) or ""]
         for more in lines[at + 1:]:
-            if not more.startswith("    →"):
+            if not more.startswith(" "):
                 break
-            statement += " " + more.strip()
-        yield found.group(1), statement
+            statement.append(more.strip())
+        yield found.group(1), " ".join(statement).strip()
 
 
 def states_a_fact(statement):

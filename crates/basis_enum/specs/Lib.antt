@@ -9,5 +9,6 @@ pub mod Merged
 pub mod Next
 pub mod Reached
 pub mod Systems
+pub mod Texts
 pub mod Vertices
 pub mod Walks

@@ -7,10 +7,9 @@
 //! workers that several enumerations share.
 //! Definitions: `specs::Reached` has the bases of a system in stages, level by level, `Levels` what
 //! levels are, `Bases` bases as numbers, `Enumeration` what a system answers; `linear_systems` says
-//! what vertices are.
+//! what vertices are. `Texts` says how a basis is displayed.
 //! Private words: `specs::Children`, `Found`, `Marks`, `Merged`, `Next` and `Walks`.
-//! Lemmas for callers: `proofs::OneAnswerLaws`, that there is one answer at most; `CompleteLevelLaws` on
-//! reached bases.
+//! Lemmas for callers: `proofs::OneAnswerLaws`, that there is one answer at most.
 //! A change here touches: `label_pairing`, `enummixed`, and the counts of `make`.
 #![tactic(auto)]
 

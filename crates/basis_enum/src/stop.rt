@@ -6,6 +6,7 @@ use frac128::Unfit;
 use game_core::TooLarge;
 use lex_tableau::StartStop;
 use std::alloc::{AllocError, AllocFailed};
+use std::fmt;
 use std::marker::Model;
 
 /// The variables of a basis, in ascending order.
@@ -34,6 +35,21 @@ impl Basis {
         ensures { result.now ≡ self.now }
     {
         self.variables.as_slice()
+    }
+}
+
+/// The variables, each after a space.
+impl fmt::Display for Basis {
+    ghost use Rattle.std.specs.Prelude.{Some};
+    ghost use Rattle.basis_enum.specs.Texts.{spaced};
+
+    ghost output = { λ basis. Some (spaced basis) };
+
+    fn fmt<W: fmt::Write>(&self, f: &mut fmt::Formatter<W>) -> fmt::Result {
+        for variable in self.variables() {
+            write!(f, " {variable}")?;
+        }
+        Ok(())
     }
 }
 

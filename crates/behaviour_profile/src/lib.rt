@@ -9,9 +9,9 @@
 //! entries of a player's sets begin (`AreStarts`), `ListedBehaviour` behaviour by lists.
 //! Private words: `specs::FirstActions` and `specs::Shares`, how entries are made.
 //! Lemmas for callers: `proofs::GroupListLemmas`, `FirstFaultLemmas`, `ProfileAnswerLemmas`,
-//! `TestedEntryLemmas`, `BehaviourEntryLemmas`, `EntryStartLemmas` and `ListedEntryLemmas` on
-//! entries, `PlanStopLemmas` on plans.
-//! A change here touches: `enumpure_trees`, `ne_checker`, `lp` and `lcp`.
+//! `TestedEntryLemmas`, `BehaviourEntryLemmas` and `EntryStartLemmas` on entries, `PlanStopLemmas`
+//! on plans.
+//! A change here touches: `enumpure_trees`, `verdicts`, `ne_checker`, `lp` and `lcp`.
 #![tactic(auto)]
 
 ghost use Rattle.std.specs.Prelude.{◌≡◌, ◌++◌, length, map, IfOk, OnOk};
@@ -83,6 +83,10 @@ impl Behaviour {
     /// The behaviour of a pure profile of reduced strategies: at each own set the strategy's action has probability
     /// 1, and where it has none the first action. `reduced` is the tree's reduced form, and `profile` has for each
     /// player the number of the strategy, from 0.
+    ///
+    /// # Errors
+    ///
+    /// Memory ran out.
     pub fn from_reduced(
         alloc: Global,
         tree: &Tree,

@@ -40,6 +40,10 @@ impl Behaviour {
 
     /// The behaviour whose probabilities stand in lists: one for each set of the tree, and in it a
     /// number for each action. Lists of chance's sets are not read.
+    ///
+    /// # Errors
+    ///
+    /// Memory ran out.
     pub fn from_lists(alloc: Global, tree: &Tree, lists: &[Vec<Frac>]) -> Result<Behaviour, Memory>
         requires lists { HasProbabilities (game_of_tree tree.now) (map (λ v. v.items) lists.now) }
         ensures { IfOk result (λ behaviour. behaviour ≡ tree_entries (game_of_tree tree.now)

@@ -30,6 +30,10 @@ fn write_starts(tree: &Tree, player: u32, starts: &mut [usize], first: usize) ->
 }
 
 /// For each player's set the place of its first entry, and 0 at a set of chance.
+///
+/// # Errors
+///
+/// Memory ran out.
 pub fn starts_of(alloc: Global, tree: &Tree) -> Result<Vec<usize>, Memory>
     ensures { IfOk result (λ starts. AreStarts (game_of_tree tree.now) starts.items) }
 {

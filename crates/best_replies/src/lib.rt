@@ -6,8 +6,8 @@
 //! choices, `Order` the order of sets, `Strategies` best strategies of a table.
 //! Lemmas for callers: `proofs::WeightLemmas`, `ReplyValueLemmas`, `DecisionOrderLemmas`,
 //! `BestChoiceLemmas`, `SetOrderLemmas`, `VerdictLemmas`, `FirstGreatestLemmas` and
-//! `StrategyLemmas`, all for `ne_checker`.
-//! A change here touches: `ne_checker` alone, and through it the verdicts of `check`.
+//! `StrategyLemmas`, all for `verdicts`.
+//! A change here touches: `verdicts` alone, and through it what `check` prints.
 #![tactic(auto)]
 
 ghost use Rattle.best_replies.specs.Examples.{BestRepliesInTheEntryGame};

@@ -125,6 +125,10 @@ impl Model for Pass {
 
 impl Claims {
     /// A claim word at 0, and the pass with all 64 parts, which has claimed nothing.
+    ///
+    /// # Errors
+    ///
+    /// Memory ran out.
     pub fn new(alloc: Global) -> Result<(Claims, Pass), Memory>
         ensures { IfOk result (λ r. r.1 ≡ pass_state r.0 64 []) }
     {

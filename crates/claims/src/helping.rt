@@ -37,6 +37,10 @@ pub(crate) struct Job<'a, R, F, G> {
 /// pass the gate before each piece. The pass has all 64 parts and has claimed nothing; whatever the
 /// answer, it has all parts again, and tells the numbers that were claimed. Refused for want of
 /// memory alone.
+///
+/// # Errors
+///
+/// Memory ran out.
 pub fn helped_map<R: Threads + Sync, T: Send + Drop, F: Fn(usize) -> T + Sync, G: Gate>(
     rt: &R,
     alloc: Global,

@@ -30,6 +30,10 @@ pub(crate) struct Work<'a, R, F, G> {
 /// where one can be made. The workers claim the numbers from the claim word, and pass the gate
 /// before each piece. The pass has all 64 parts and has claimed nothing; whatever the answer, it
 /// has all parts again, and tells the numbers that were claimed. Refused for want of memory alone.
+///
+/// # Errors
+///
+/// Memory ran out.
 pub fn shared_map<R: Threads + Sync, T: Send + Drop, F: Fn(usize) -> T + Sync, G: Gate>(
     rt: &R,
     alloc: Global,

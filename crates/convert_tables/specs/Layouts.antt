@@ -4,7 +4,7 @@ use Rattle.std.specs.Prelude.{ℕ, suc, ◌==◌, ◌&&◌, not, if◌then◌els
 use Rattle.std.specs.List.{filter, flat_map, range_with_len}
 use Rattle.std.specs.Fmt.{decimal}
 use Rattle.game_theory.specs.Profiles.{profile_count, profile_at, number_of}
-use Rattle.game_theory.specs.Lines.{number_text}
+use Rattle.rational.specs.Text.{number_text}
 use Rattle.game_core.specs.Table.{GameTable, game_of, strategy_counts}
 use Rattle.convert_tables.specs.declared.marks.Style.{Style}
 use Rattle.convert_tables.specs.declared.marks.Style.TheVariants.{Html, Sgame}

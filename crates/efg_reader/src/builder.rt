@@ -125,6 +125,10 @@ fn add_branches(
 
 impl Nodes {
     /// These nodes with one more at the first open branch, with this set and this outcome.
+    ///
+    /// # Errors
+    ///
+    /// Memory ran out.
     pub fn add(self, sets: &Sets, used: UsedSet, outcome: Option<u32>) -> Result<Nodes, AllocError>
         requires free { self.branchings ≢ [] }
         requires room { passed (tree_of self [] []) ≡ None }
@@ -156,6 +160,10 @@ impl Nodes {
 
 impl Builder {
     /// Nothing but the branch of the root.
+    ///
+    /// # Errors
+    ///
+    /// Memory ran out.
     pub fn new(alloc: Global) -> Result<Builder, AllocError>
         ensures { IfOk result (λ builder. builder ≡ root_alone) }
     {

@@ -9,8 +9,8 @@
 //! `Ranks` the lines of profiles that pass.
 //! Private words: `lengths`, which counts bytes before lines are written.
 //! Lemmas for callers: `proofs::OneTextLaws` on texts within the limit; `ListedProfileLemmas`.
-//! A change here touches: `enumpure_trees`, `subgames`, `enummixed`, `refusals`, `gambit_tools` and
-//! what `enumpure` prints.
+//! A change here touches: `enumpure_trees`, `enummixed`, `refusals`, `gambit_tools` and what
+//! `enumpure` prints.
 #![tactic(auto)]
 
 mod lengths;

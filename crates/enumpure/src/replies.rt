@@ -121,6 +121,10 @@ fn keep_mutual(all_best: &mut [bool], table: &Table)
 }
 
 /// For each profile, by its number, whether each player plays a best reply.
+///
+/// # Errors
+///
+/// Memory ran out.
 pub fn mutual_best_replies(alloc: Global, table: &Table) -> Result<Vec<bool>, Memory>
     ensures { IfOk result
         (λ replies. AreMutualBestReplies (game_of table.now) replies.items) }

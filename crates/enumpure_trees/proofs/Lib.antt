@@ -15,6 +15,7 @@ pub mod OrderedLineLemmas
 pub mod OrderedProfileLemmas
 pub mod PassingAnswerLemmas
 pub mod PassingChoiceLemmas
+pub mod PassingLaws
 pub mod PassingLineLemmas
 mod RankSumLemmas
 mod RankedProfileLemmas

@@ -7,9 +7,8 @@
 //! Definitions: `specs::ExtremeEquilibria` says what they are, `Bimatrix` has the two tables,
 //! `Polytopes` best replies and labels, `Systems` the two systems, `PairLines` the lines;
 //! `Elimination` says which strategies are kept, `KeptTable` has the game over them.
-//! Lemmas for callers: `proofs::SystemLemmas` on the points of the systems, `TwoPlayerLemmas` on
-//! payoffs, `ExtremeListLemmas` and `PairLineLemmas` on lists of lines, `KeptListLemmas` and
-//! `RoundLemmas` on what is kept.
+//! Lemmas for callers: `proofs::SystemLemmas` on the points of the systems, `ExtremeListLemmas` and
+//! `PairLineLemmas` on lists of lines, `KeptListLemmas` and `RoundLemmas` on what is kept.
 //! A change here touches: `kept_strategies`, `reply_polytope`, `label_pairing`, `enummixed`.
 #![tactic(auto)]
 

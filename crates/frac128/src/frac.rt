@@ -9,6 +9,7 @@ ghost use Rattle.rational.specs.Tests.{cmp_ℚ, sign_of};
 use crate::euclid::{cmp_signed_quotients, divided, gcd};
 use crate::fitting::{TWO_TO_127, is_short, signed};
 use std::cmp::Ordering;
+use std::fmt;
 use std::marker::Model;
 
 /// A rational number in lowest terms: its denominator is positive, and both parts lie from
@@ -60,6 +61,24 @@ impl Eq for Frac {
     ghost use Rattle.std.specs.Cmp.Rules.{comparing};
 
     ghost laws = { Prim.search (comparing, rules) };
+}
+
+/// The numerator, with a `-` first where it is negative, and after `/` the denominator where that is not 1.
+impl fmt::Display for Frac {
+    ghost use Rattle.std.specs.Prelude.{Some};
+    ghost use Rattle.rational.specs.Text.{number_text};
+
+    ghost output = { λ q. Some (number_text q) };
+
+    fn fmt<W: fmt::Write>(&self, f: &mut fmt::Formatter<W>) -> fmt::Result {
+        let num = self.num();
+        let den = self.den();
+        if den == 1 {
+            write!(f, "{num}")
+        } else {
+            write!(f, "{num}/{den}")
+        }
+    }
 }
 
 impl Frac {

@@ -5,10 +5,10 @@
 //! Definitions: a `Frac` is a `ℚ` to contracts; `specs::Fraction` says which fit (parts up to 2^127
 //! - 1 in size), `specs::Short` which are short, `specs::Steps` when a step fits, which of many is
 //! the first that does not, and what they give, `specs::FirstUnfit` the first thing with such a
-//! step.
+//! step, `specs::Texts` how a step is displayed; a fraction is displayed as `rational` says.
 //! Private words: what `euclid`, `fitting`, `products` and `sums` do not hand on.
-//! Lemmas for callers: `proofs::PartLemmas` and `ReductionLemmas` on parts, `ComparisonLemmas` and
-//! `SignLemmas`; `StepRunLemmas`, `StepPartLemmas` and `FirstUnfitLemmas` on steps.
+//! Lemmas for callers: `proofs::PartLemmas` and `ReductionLemmas` on parts; `StepRunLemmas`,
+//! `StepPartLemmas` and `FirstUnfitLemmas` on steps.
 //! A change here touches: which steps fit, and so every refusal `Range`.
 #![tactic(auto)]
 

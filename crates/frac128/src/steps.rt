@@ -4,6 +4,7 @@ ghost use Rattle.frac128.specs.Steps.{AddFits, SubFits, MulFits, DivFits, step_o
 ghost use Rattle.rational.specs.Rational.{zero_ℚ, inv_ℚ, ◌+ℚ◌, ◌-ℚ◌, ◌*ℚ◌};
 
 use crate::Frac;
+use std::fmt;
 
 /// An operation on two fractions.
 #[derive(Debug, Clone, Copy, PartialEq, Eq)]
@@ -27,6 +28,34 @@ pub struct Unfit {
     pub left: Frac,
     /// The right operand.
     pub right: Frac,
+}
+
+impl fmt::Display for Op {
+    ghost use Rattle.std.specs.Prelude.{Some};
+    ghost use Rattle.frac128.specs.Texts.{op_text};
+
+    ghost output = { λ op. Some (op_text op) };
+
+    fn fmt<W: fmt::Write>(&self, f: &mut fmt::Formatter<W>) -> fmt::Result {
+        f.write_str(match self {
+            Op::Add => "add",
+            Op::Sub => "sub",
+            Op::Mul => "mul",
+            Op::Div => "div",
+        })
+    }
+}
+
+impl fmt::Display for Unfit {
+    ghost use Rattle.std.specs.Prelude.{Some};
+    ghost use Rattle.frac128.specs.Texts.{step_text};
+
+    ghost output = { λ step. Some (step_text step) };
+
+    fn fmt<W: fmt::Write>(&self, f: &mut fmt::Formatter<W>) -> fmt::Result {
+        let Unfit { op, left, right } = self;
+        write!(f, "{op} {left} {right}")
+    }
 }
 
 impl Unfit {

@@ -1,6 +1,7 @@
 -- Commands with two inputs: what reading them and judging the lines of the second does.
-use Rattle.std.proofs.Common.{ℕ, zero, suc, slice_get, ap, ◌≡◌, ◌+◌, ◌≤◌, ◌<◌, ◌∙◌, inl, inr, sym, subst, refl, arith, Bool, List, [], ◌∷◌, length, Option, None, Some, Ok, Err}
+use Rattle.std.proofs.Common.{ℕ, zero, suc, slice_get, ap, ◌≡◌, ◌≤◌, ◌<◌, ◌∙◌, inl, inr, sym, subst, refl, arith, Bool, false, List, [], ◌∷◌, length, Option, None, Some, Ok, Err}
 use Rattle.std.proofs.lemmas.Option.{same_Some}
+use Rattle.std.proofs.lemmas.List.Elements.{All-cons, All-nil}
 use Rattle.std.specs.Io.KnownBytes.{Consumes}
 use Rattle.answers.specs.Answers.{Gives}
 use Rattle.outside.specs.Counts.{Rose, count_of_more, next_count}
@@ -10,7 +11,7 @@ use Rattle.game_core.specs.declared.game.Game.{Game}
 use Rattle.gambit_tools.specs.Check.{check, verdicts}
 use Rattle.gambit_tools.specs.Input.{most_bytes, AreBytesOf, IsInputRefusal, IsReadToEnd, CountsDetermine}
 use Rattle.gambit_tools.specs.Games.{game_in}
-use Rattle.gambit_tools.specs.Outcome.{AreRead, HasAnswer, HasReadBefore, ComesInTurn, IsComputed, IsRefusedIn, RunAnswer}
+use Rattle.gambit_tools.specs.Outcome.{AreRead, HasAnswer, HasReadBefore, ComesInTurn, IsComputed, IsRefusedIn, RunAnswer, SelectsFew}
 use Rattle.refusals.specs.declared.refusal.Refusal.{Refusal}
 use Rattle.refusals.specs.declared.refusal.Refusal.TheVariants as refusal
 use Rattle.gambit_tools.proofs.CheckContentLemmas.{verdicts-contents}
@@ -30,6 +31,7 @@ pub record IsAfterOne (before between : InputsSeen) : Type 0 where
   pub once : between.selections ≡ next_count before.selections
   pub ends : between.ends ≡ next_count before.ends
   pub stay : (n : InputName) → between.held n ≡ before.held n
+  pub absent : (n : InputName) → between.absent n ≡ before.absent n
 
 counts_after : (before between after : InputsSeen) (r : Option Refusal) → IsAfterOne before between → CountsDetermine between after r → CountsDetermine before after r
 counts_after before between after r s h = record {
@@ -126,21 +128,25 @@ module _ (strategic : Bool) (bytes_name : List ℕ) (lines_name : InputName) whe
   pub record AreBothRead (before after : InputsSeen) (bytes lines : List ℕ) : Type 0 where
     pub are_bytes : AreBytesOf (before.held game_name) bytes
     pub are_lines : AreBytesOf (before.held lines_name) lines
+    pub game_there : before.absent game_name ≡ false
+    pub lines_there : before.absent lines_name ≡ false
     pub few_bytes : length bytes ≤ most_bytes
     pub few_lines : length lines ≤ most_bytes
     pub read : IsReadToEnd lines_name after
     pub counts : CountsDetermine before after None
-    pub twice : after.selections ≤ before.selections + 2
+    pub twice : after.selections ≡ count_of_more before.selections 2
     pub ends : after.ends ≡ count_of_more before.ends 2
     pub stay : (n : InputName) → after.held n ≡ before.held n
 
   -- one input after the other
-  pub both-read : (before between after : InputsSeen) (bytes lines : List ℕ) → IsAfterOne before between → AreBytesOf (before.held game_name) bytes → AreBytesOf (between.held lines_name) lines
+  pub both-read : (before between after : InputsSeen) (bytes lines : List ℕ) → IsAfterOne before between → AreBytesOf (before.held game_name) bytes → AreBytesOf (between.held lines_name) lines → before.absent game_name ≡ false → between.absent lines_name ≡ false
       → length bytes ≤ most_bytes → length lines ≤ most_bytes → IsReadToEnd lines_name after → CountsDetermine between after None → after.selections ≡ next_count between.selections → after.ends ≡ next_count between.ends
       → ((n : InputName) → after.held n ≡ between.held n) → AreBothRead before after bytes lines
-  both-read before between after bytes lines s are_bytes are_lines few_bytes few_lines read counts few ends stay = record {
+  both-read before between after bytes lines s are_bytes are_lines game_there lines_there few_bytes few_lines read counts few ends stay = record {
     are_bytes = are_bytes;
     are_lines = subst (λ held. AreBytesOf held lines) (s.stay lines_name) are_lines;
+    game_there = game_there;
+    lines_there = sym (s.absent lines_name) ∙ lines_there;
     few_bytes = few_bytes;
     few_lines = few_lines;
     read = read;
@@ -152,11 +158,20 @@ module _ (strategic : Bool) (bytes_name : List ℕ) (lines_name : InputName) whe
 
   -- that is what is read of both
   both : (before after : InputsSeen) (bytes lines : List ℕ) → AreBothRead before after bytes lines → AreRead (game_name ∷ lines_name ∷ []) before after
-  both before after bytes lines h = record { last = h.read; ends = h.ends }
+  both before after bytes lines h = record {
+    last = h.read;
+    selections = h.twice;
+    ends = h.ends;
+    are_there = All-cons (λ n. before.absent n ≡ false) game_name (lines_name ∷ []) h.game_there (All-cons (λ n. before.absent n ≡ false) lines_name [] h.lines_there (All-nil (λ n. before.absent n ≡ false)));
+  }
+
+  -- no more selections are made than there are names
+  few_selections : (before after : InputsSeen) (bytes lines : List ℕ) → AreBothRead before after bytes lines → SelectsFew (game_name ∷ lines_name ∷ []) before after
+  few_selections before after bytes lines h = let twice = h.twice in omega (arith, twice)
 
   memory-computed : (before after : InputsSeen) (bytes lines : List ℕ) → AreBothRead before after bytes lines → IsComputed command before after (Err refusal.Memory)
   memory-computed before after bytes lines h =
-      record { answers = tt; has_read = inr (lines_name, (1, omega arith, refl), h.read.selected); selects_few = h.twice; counts = counts_none before after refusal.Memory h.counts; inputs_stay = h.stay }
+      record { answers = tt; has_read = inr (lines_name, (1, omega arith, refl), h.read.selected); selects_few = few_selections before after bytes lines h; counts = counts_none before after refusal.Memory h.counts; inputs_stay = h.stay }
 
   -- what the contents answer
   whole : (before after : InputsSeen) (bytes lines : List ℕ) (answer : RunAnswer) → AreBothRead before after bytes lines → check strategic bytes lines answer → HasAnswer command before answer
@@ -169,7 +184,7 @@ module _ (strategic : Bool) (bytes_name : List ℕ) (lines_name : InputName) whe
       record {
         answers = subst (λ o. IsRefusedIn command before after r o) (sym o) answer;
         has_read = subst (λ o. HasReadBefore (game_name ∷ lines_name ∷ []) before after o) (sym o) (both before after bytes lines h);
-        selects_few = h.twice;
+        selects_few = few_selections before after bytes lines h;
         counts = counts_none before after r h.counts;
         inputs_stay = h.stay;
       }
@@ -190,7 +205,7 @@ module _ (strategic : Bool) (bytes_name : List ℕ) (lines_name : InputName) whe
   verdicts-computed before after bytes lines game (Ok text) h k g = record {
     answers = whole before after bytes lines (Ok text) h (tt, (λ more. (let few = h.few_bytes in omega (arith, few, more))), (tt, (λ more. (let few = h.few_lines in omega (arith, few, more))), (game, k, g)));
     has_read = both before after bytes lines h;
-    selects_few = h.twice;
+    selects_few = few_selections before after bytes lines h;
     counts = h.counts;
     inputs_stay = h.stay;
   }

@@ -1,5 +1,6 @@
 -- The tool `convert` has at most one answer, and its refusals come from the contents of its input.
-use Rattle.std.proofs.Common.{ℕ, ◌-◌, ◌≡◌, refl, Err}
+use Rattle.std.proofs.Common.{ℕ, ◌-◌, ◌≡◌, List, length, refl, Ok, Err, inl, inr, arith}
+use Rattle.std.proofs.lemmas.Bool.{cases_lt}
 use Rattle.answers.specs.Answers.{Answer, IsSingle, ◌>>◌, refuse_where, refused_by}
 use Rattle.answers.proofs.AnswerLemmas.{bind-single, refused_by-single}
 use Rattle.game_core.specs.Table.{GameTable}
@@ -18,8 +19,32 @@ use Rattle.two_player_tools.specs.StrategicForms.{strategic_form}
 use Rattle.two_player_tools.proofs.StrategicFormLemmas.{strategic_form-single}
 use Rattle.words.specs.declared.Layout.{Layout}
 use Rattle.words.specs.declared.Layout.TheVariants as layouts
-use Rattle.gambit_tools.specs.Convert.{convert, layout_in}
+use Rattle.game_core.proofs.LimitLemmas.{text-same}
+use Rattle.gambit_tools.specs.Convert.{IsLayoutText, convert, layout_in, style_of}
 use Rattle.gambit_tools.proofs.FormContentLemmas.{AreReasons, IsOfContents, inner-reasons, strategic_form-contents, then-contents, then-reasons, told-contents, where-reasons}
+
+-- ---- what the text is
+-- a number that is not no player's is a player's
+player-is : (table : GameTable) (number : ℕ) → ¬ (¬ (IsPlayer table number)) → IsPlayer table number
+player-is table number h = elim (cases_lt 0 number) [
+  | inl some ↦ elim (cases_lt (length table.players) number) [ inl more ↦ absurd (h (λ p. omega (arith, p.1, more))) | inr few ↦ (some, omega (arith, few)) ]
+  | inr none ↦ absurd (h (λ p. omega (arith, p.0, none)))
+]
+
+laid_out-is : (shape : Layout) (table : GameTable) (row column : ℕ) (game : Game) (text : List ℕ) → strategic_form game (Ok table) → laid_out (style_of shape) table row column (Ok text) → IsLayoutText shape row column game text
+laid_out-is shape table row column game text form h = record {
+  table = table;
+  is_form = form;
+  row_is_player = player-is table row h.1.1.1;
+  column_is_player = player-is table column h.1.1.2;
+  apart = h.1.2;
+  is_layout = text-same (layout (style_of shape) table (row - 1) (column - 1)) text h.2;
+}
+
+-- a text of `convert` is the layout of the strategic form
+pub convert-is : (shape : Layout) (row column : ℕ) (game : Game) (text : List ℕ) → convert shape row column game (Ok text) → IsLayoutText shape row column game text
+convert-is layouts.Html row column game text h = laid_out-is layouts.Html h.0 row column game text h.1 h.2
+convert-is layouts.Sgame row column game text h = laid_out-is layouts.Sgame h.0 row column game text h.1 h.2
 
 -- ---- one answer
 layout_in-single : (shape : Layout) (table : GameTable) (row column : ℕ) → IsSingle (layout_in shape table row column)

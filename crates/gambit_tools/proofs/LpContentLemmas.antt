@@ -22,7 +22,7 @@ use Rattle.two_player_tools.specs.TwoPlayers.{form_in, two_players}
 use Rattle.refusals.specs.Told.{pivot_refusal, plan_refusal, program_refusal}
 use Rattle.refusals.specs.declared.refusal.Refusal.{Refusal}
 use Rattle.refusals.specs.declared.refusal.Refusal.TheVariants as refusal
-use Rattle.refusals.specs.declared.refusal.Site.TheVariants as site
+use Rattle.refusals.specs.declared.site.Site.TheVariants as site
 use Rattle.gambit_tools.proofs.FormContentLemmas.{AreContents, IsOfContents, entries-contents, form_in-contents, only-contents, then-contents, told-contents, two_players-contents, where-contents}
 
 -- ---- reasons to stop

@@ -1,5 +1,6 @@
 -- Commands with one input: what reading it and computing the text does.
-use Rattle.std.proofs.Common.{ℕ, ◌≡◌, ◌+◌, ◌≤◌, ◌<◌, ◌∙◌, inl, inr, sym, ap, subst, refl, arith, length-append, List, [], ◌∷◌, length, Contains, Option, None, Some, Result, Ok, Err}
+use Rattle.std.proofs.Common.{ℕ, ◌≡◌, ◌+◌, ◌≤◌, ◌<◌, ◌∙◌, inl, inr, sym, ap, subst, refl, arith, length-append, List, [], ◌∷◌, length, false, Contains, Option, None, Some, Result, Ok, Err}
+use Rattle.std.proofs.lemmas.List.Elements.{All-cons, All-nil}
 use Rattle.std.specs.Io.KnownBytes.{Consumes}
 use Rattle.answers.specs.Answers.{Gives}
 use Rattle.outside.specs.Counts.{next_count}
@@ -73,6 +74,7 @@ refused-computed command name before after _ one h counts few ends stay = elim h
 pub record IsRead (command : Command) (name : InputName) (before after : InputsSeen) (bytes : List ℕ) : Type 0 where
   pub one : inputs_of command ≡ name ∷ []
   pub are : AreBytesOf (before.held name) bytes
+  pub there : before.absent name ≡ false
   pub few : length bytes ≤ most_bytes
   pub read : IsReadToEnd name after
   pub ends : after.ends ≡ next_count before.ends
@@ -83,7 +85,7 @@ pub record IsRead (command : Command) (name : InputName) (before after : InputsS
 -- that is what is read of the one input
 one_read : (command : Command) (name : InputName) (before after : InputsSeen) (bytes : List ℕ) → IsRead command name before after bytes → AreRead (inputs_of command) before after
 one_read command name before after bytes h =
-    let read : AreRead (name ∷ []) before after = record { last = h.read; ends = h.ends } in
+    let read : AreRead (name ∷ []) before after = record { last = h.read; selections = h.once; ends = h.ends; are_there = All-cons (λ n. before.absent n ≡ false) name [] h.there (All-nil (λ n. before.absent n ≡ false)) } in
     subst (λ names. AreRead names before after) (sym h.one) read
 
 -- want of memory

@@ -7,11 +7,13 @@ use Rattle.game_core.specs.MadeTables.{made_game}
 use Rattle.outside.specs.Inputs.{InputName}
 use Rattle.tree_grammar.specs.declared.kinds.EfgKind.{EfgKind}
 use Rattle.tree_grammar.specs.declared.kinds.EfgKind.TheVariants as efg_kind
-use Rattle.words.specs.Words.{Command, Enumpure, Enummixed, Lcp, Lp, Check, Make}
+use Rattle.words.specs.Words.{Command, Enumpure, Enummixed, Lcp, Lp, Convert, Check, Make}
+use Rattle.words.specs.declared.Layout.{Layout}
 use Rattle.two_player_tools.specs.LcpLaws.{IsLcpText}
 use Rattle.two_player_tools.specs.LpLaws.{IsLpText}
 use Rattle.gambit_tools.specs.Check.{IsCheckText}
 use Rattle.gambit_tools.specs.Commands.{answer_of}
+use Rattle.gambit_tools.specs.Convert.{IsLayoutText}
 use Rattle.gambit_tools.specs.Enummixed.{IsExtremeText}
 use Rattle.gambit_tools.specs.Enumpure.{IsPureText}
 use Rattle.gambit_tools.specs.Games.{game_in}
@@ -20,8 +22,8 @@ use Rattle.refusals.specs.declared.refusal.Refusal.{Refusal}
 use Rattle.refusals.specs.declared.refusal.Refusal.TheVariants as refusal
 
 -- Each text of `enumpure` lists the pure equilibria, or with `-A` or `-P` on a tree the choices that pass; that of
--- `enummixed` lists the extreme ones, that of `lcp` is an equilibrium, that of `lp` a solution, that of `check` tells of
--- each line, and that of `make` counts.
+-- `enummixed` lists the extreme ones, that of `lcp` is an equilibrium, that of `lp` a solution, that of `convert` the
+-- layout of the strategic form, that of `check` tells of each line, and that of `make` counts.
 pub record TextsHoldForTheGame : Type 0 where
   pub enumpure : (strategic agents perfect : Bool) (file : InputName) (bytes text : List ℕ)
       → answer_of (Enumpure strategic agents perfect file) (bytes ∷ []) (Ok text)
@@ -35,6 +37,9 @@ pub record TextsHoldForTheGame : Type 0 where
   pub lp : (strategic prices perfect : Bool) (file : InputName) (bytes text : List ℕ)
       → answer_of (Lp strategic prices perfect file) (bytes ∷ []) (Ok text)
       → (game : Game) × game_in bytes (Ok game) × IsLpText strategic prices perfect game text
+  pub convert : (shape : Layout) (row column : ℕ) (file : InputName) (bytes text : List ℕ)
+      → answer_of (Convert shape row column file) (bytes ∷ []) (Ok text)
+      → (game : Game) × game_in bytes (Ok game) × IsLayoutText shape row column game text
   pub check : (strategic : Bool) (name : List ℕ) (file : InputName) (bytes lines text : List ℕ)
       → answer_of (Check strategic name file) (bytes ∷ lines ∷ []) (Ok text)
       → (game : Game) × game_in bytes (Ok game) × IsCheckText strategic game lines text

@@ -1,5 +1,5 @@
 -- What a run does: what it answers and why, what it reads and writes, and what it tells on standard error.
-use Rattle.std.specs.Prelude.{ℕ, zero, suc, ◌+◌, ◌<◌, ◌≤◌, ◌≡◌, ◌⊎◌, true, List, [], ◌∷◌, length, slice_get, take, Contains, Option, None, Some, Ok, Err, Result}
+use Rattle.std.specs.Prelude.{ℕ, zero, suc, ◌+◌, ◌<◌, ◌≤◌, ◌≡◌, ◌⊎◌, true, false, All, List, [], ◌∷◌, length, slice_get, take, Contains, Option, None, Some, Ok, Err, Result}
 use Rattle.std.specs.Result.{result_err}
 use Rattle.outside.specs.Counts.{Rose, count_of_more}
 use Rattle.outside.specs.Inputs.{InputName, InputsSeen}
@@ -19,19 +19,20 @@ abbrev pub RunAnswer : Type 0
 RunAnswer = Result (List ℕ) Refusal
 
 -- ---- contents
--- the contents are those of the inputs with these names, where they are known
+-- the contents are those of the inputs with these names, each by what is known of it
+abbrev pub AreContentsBy : (InputName → List ℕ → Type 0) → List InputName → List (List ℕ) → Type 0
+AreContentsBy known [] [] = Unit {0}
+AreContentsBy known (name ∷ names) (bytes ∷ contents) =
+    known name bytes × AreContentsBy known names contents
+AreContentsBy known _ _ = ⊥
+
+-- the contents are those of the inputs with these names, where they are told
 abbrev pub AreContents : (InputName → Option (List ℕ)) → List InputName → List (List ℕ) → Type 0
-AreContents held [] [] = Unit {0}
-AreContents held (name ∷ names) (bytes ∷ contents) =
-    AreBytesOf (held name) bytes × AreContents held names contents
-AreContents held _ _ = ⊥
+AreContents held = AreContentsBy (λ name bytes. AreBytesOf (held name) bytes)
 
 -- the contents are those that the inputs with these names tell
 abbrev pub AreToldContents : (InputName → Option (List ℕ)) → List InputName → List (List ℕ) → Type 0
-AreToldContents held [] [] = Unit {0}
-AreToldContents held (name ∷ names) (bytes ∷ contents) =
-    (held name ≡ Some bytes) × AreToldContents held names contents
-AreToldContents held _ _ = ⊥
+AreToldContents held = AreContentsBy (λ name bytes. held name ≡ Some bytes)
 
 -- the contents of a command's inputs have this answer
 pub record HasAnswer (command : Command) (before : InputsSeen) (answer : RunAnswer) : Type 0 where
@@ -49,9 +50,12 @@ IsLastRead (name ∷ other ∷ names) after = IsLastRead (other ∷ names) after
 -- after the inputs with these names were read to their ends, one after another
 pub record AreReadToEnd (names : List InputName) (before after : InputsSeen) : Type 0 where
   pub last : IsLastRead names after
-  -- the end was met in as many selections as there are names: in each selection, where nothing was
-  -- selected before and no more were made
+  -- as many selections were made as there are names, and the end was met in as many: in each of them,
+  -- where nothing was selected before
+  pub selections : after.selections ≡ count_of_more before.selections (length names)
   pub ends : after.ends ≡ count_of_more before.ends (length names)
+  -- none of these names is known to be that of no input
+  pub are_there : All (λ name. before.absent name ≡ false) names
 
 -- what was read of inputs with these names, one after another
 abbrev pub AreRead : List InputName → InputsSeen → InputsSeen → Type 0

@@ -63,11 +63,10 @@ fn read_piece<I: Inputs>(
     ensures open_faults { (I.seen inputs.new).open_faults ≡ (I.seen inputs.old).open_faults }
     ensures selections { (I.seen inputs.new).selections ≡ (I.seen inputs.old).selections }
     ensures held { (n : InputName) → (I.seen inputs.new).held n ≡ (I.seen inputs.old).held n }
+    ensures absent { (n : InputName) → (I.seen inputs.new).absent n ≡ (I.seen inputs.old).absent n }
 {
     let room = buffer.len().min(MOST_BYTES + 1 - bytes.len());
-    let Ok(count) = inputs.read(&mut buffer[..room]) else {
-        return Err(Refusal::ReadFault);
-    };
+    let count = inputs.read(&mut buffer[..room])?;
     bytes.extend_from_slice(&buffer[..count])?;
     Ok(count)
 }
@@ -93,6 +92,7 @@ fn read_selected<I: Inputs>(alloc: Global, inputs: &mut I) -> Result<Vec<u8>, Re
     ensures open_faults { (I.seen inputs.new).open_faults ≡ (I.seen inputs.old).open_faults }
     ensures selections { (I.seen inputs.new).selections ≡ (I.seen inputs.old).selections }
     ensures held { (n : InputName) → (I.seen inputs.new).held n ≡ (I.seen inputs.old).held n }
+    ensures absent { (n : InputName) → (I.seen inputs.new).absent n ≡ (I.seen inputs.old).absent n }
 {
     let mut buffer = new_buffer(alloc)?;
     let mut bytes = Vec::new(alloc);
@@ -114,6 +114,8 @@ pub(crate) fn read_input<I: Inputs>(
     ensures bytes { IfOk result
         (λ bytes. AreBytesOf
         ((I.seen inputs.old).held (option_map string_bytes name)) bytes.items) }
+    ensures is_there { OnOk result
+        ((I.seen inputs.old).absent (option_map string_bytes name) ≡ false) }
     ensures within_limit { IfOk result (λ bytes. length bytes.items ≤ most_bytes) }
     ensures read { OnOk result (IsReadToEnd (option_map string_bytes name) (I.seen inputs.new)) }
     ensures ends { MatchResult result
@@ -130,9 +132,8 @@ pub(crate) fn read_input<I: Inputs>(
     ensures selections { (I.seen inputs.new).selections
         ≡ next_count (I.seen inputs.old).selections }
     ensures held { (n : InputName) → (I.seen inputs.new).held n ≡ (I.seen inputs.old).held n }
+    ensures absent { (n : InputName) → (I.seen inputs.new).absent n ≡ (I.seen inputs.old).absent n }
 {
-    match inputs.select(name) {
-        Ok(()) => read_selected(alloc, inputs),
-        Err(_) => Err(Refusal::OpenFault),
-    }
+    inputs.select(name)?;
+    read_selected(alloc, inputs)
 }

@@ -33,7 +33,7 @@ use std::alloc::Global;
 use std::marker::Sync;
 use std::thread::Threads;
 use two_player_tools::{lcp_texts_are_equilibria, lp_texts_are_solutions, solutions_are_single};
-use words::{Settings, SettingsStop, read_settings};
+use words::{Settings, read_settings};
 
 // Reads the inputs that the settings name, and computes the text. Each tool has an arm.
 #[tactic(auto, using(crate::proofs::MakeLaws::make_computed))]
@@ -115,16 +115,10 @@ fn answer<R: Threads + Sync, I: Inputs, K: Sink, G: Gate>(
         → result_err result ≡ Some Refusal.WriteFault }
     ensures held { (n : InputName) → (I.seen inputs.new).held n ≡ (I.seen inputs.old).held n }
 {
-    let settings = match read_settings(alloc, words) {
-        Ok(settings) => settings,
-        Err(SettingsStop::Usage(usage)) => return Err(Refusal::Usage(usage)),
-        Err(SettingsStop::Memory) => return Err(Refusal::Memory),
-    };
+    let settings = read_settings(alloc, words)?;
     let text = compute(rt, alloc, settings, inputs, gate)?;
-    match write_text(out, &text) {
-        Ok(()) => Ok(text),
-        Err(_) => Err(Refusal::WriteFault),
-    }
+    write_text(out, &text)?;
+    Ok(text)
 }
 
 // Writes a line. A fault of the sink ends the writing. Takes no memory.
@@ -219,8 +213,9 @@ pub fn ranges_do_not_fit()
     ensures { RangesDoNotFit }
 {}
 
-/// Each text of `enumpure`, `enummixed`, `lcp`, `lp` and `check` says what is so of the game that the
-/// bytes of the input stand for, and that of `make` what is so of the table that is made.
+/// Each text of `enumpure`, `enummixed`, `lcp`, `lp`, `convert` and `check` says what is so of the
+/// game that the bytes of the input stand for, and that of `make` what is so of the table that is
+/// made.
 pub fn texts_hold_for_the_game()
     ensures { TextsHoldForTheGame }
 {

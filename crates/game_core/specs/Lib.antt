@@ -1,10 +1,11 @@
 pub mod LastMoves
 pub mod Limits
-pub mod Spacing
 pub mod MadeTableLaws
 pub mod MadeTables
 pub mod OwnSets
+pub mod Spacing
 pub mod Table
+pub mod Texts
 pub mod TokenList
 pub mod Tree
 pub mod TreeCodes

@@ -7,7 +7,7 @@
 //! Definitions: `specs::Table` and `TreeGame` say what a table and a tree stand for (`game_of`,
 //! `game_of_tree`), `Tree` what makes one, `LastMoves` which moves are the last, `Limits` when a count
 //! is within its limit, `Spacing` what tokens keep, `TreeCodes` how the parts of trees are coded where
-//! models keep them.
+//! models keep them, `Texts` how what is counted is displayed.
 //! Private words: `specs::OwnSets`, how a tree keeps its own sets.
 //! Lemmas for callers: `proofs::TableCountLemmas` on counts of strategies, `SameTableLemmas` on tables
 //! with the same parts, `StrideLemmas`, `ParentPathLemmas` on subtrees, `SetReadLemmas` on sets that

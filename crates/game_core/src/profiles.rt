@@ -38,6 +38,10 @@ pub fn set_profile(profile: &mut [u32], counts: &[usize], number: usize)
 
 /// Adds the probabilities of so many strategies or actions, of which one is surely chosen: 1 for that one, which counts
 /// from 0, and 0 for the others.
+///
+/// # Errors
+///
+/// Memory ran out.
 pub fn push_sure(entries: &mut Vec<Frac>, count: usize, chosen: usize) -> Result<(), Memory>
     ensures { OnOk result (entries.new.items ≡ entries.old.items ++ listed count (sure chosen)) }
 {

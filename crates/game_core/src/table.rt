@@ -112,6 +112,10 @@ impl Table {
     }
 
     /// How many strategies each player has.
+    ///
+    /// # Errors
+    ///
+    /// Memory ran out.
     pub fn strategy_counts(&self, alloc: Global) -> Result<Vec<usize>, Memory>
         ensures counts { IfOk result (λ counts. counts.items ≡ strategy_counts self.now) }
         ensures valid { OnOk result (IsTable self.now) }

@@ -2,6 +2,8 @@
 ghost use Rattle.std.specs.Prelude.{◌≡◌, ◌+◌, ◌<◌, ◌^◌};
 ghost use Rattle.game_core.specs.Limits.{first_above, within};
 
+use std::fmt;
+
 /// The most rows of a complementarity problem, and the most rows and columns of a linear program
 /// together.
 pub const MOST_ROWS: u64 = 512;
@@ -27,6 +29,27 @@ pub enum What {
     Rows,
     /// Bytes of the text that is written.
     Text,
+}
+
+impl fmt::Display for What {
+    ghost use Rattle.std.specs.Prelude.{Some};
+    ghost use Rattle.game_core.specs.Texts.{what_text};
+
+    ghost output = { λ what. Some (what_text what) };
+
+    fn fmt<W: fmt::Write>(&self, f: &mut fmt::Formatter<W>) -> fmt::Result {
+        f.write_str(match self {
+            What::Payoffs => "payoffs",
+            What::Choices => "choices",
+            What::Nodes => "nodes",
+            What::Depth => "depth",
+            What::Labels => "labels",
+            What::Bases => "bases",
+            What::Pairs => "pairs",
+            What::Rows => "rows",
+            What::Text => "bytes of text",
+        })
+    }
 }
 
 /// A count that passed its limit.

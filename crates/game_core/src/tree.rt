@@ -264,6 +264,10 @@ impl Model for Tree {
 
 impl Tree {
     /// The tree with these parts.
+    ///
+    /// # Errors
+    ///
+    /// Memory ran out.
     pub fn new(
         alloc: Global,
         title: Name,

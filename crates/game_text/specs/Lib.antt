@@ -4,4 +4,5 @@ pub mod NumberReading
 pub mod Numbers
 pub mod Reading
 pub mod Stops
+pub mod Texts
 pub mod Tokens

@@ -4,10 +4,9 @@
 //! fault; `read_number` a number's exact value, or what is wrong, without memory.
 //! Definitions: `specs::Tokens` has tokens and faults, `specs::Numbers` the texts, values and
 //! limits of numbers, `specs::Stops` what bytes answer (`tokens_of`), `specs::Laws` that each has
-//! an answer.
+//! an answer, `specs::Texts` how a fault's kind is displayed.
 //! Private words: `specs::Reading` and `specs::NumberReading`, which say how the code reads.
-//! Lemmas for callers: `proofs::DigitLemmas`, `PowerLemmas`, `EveryAnswerLaws`, that there is an
-//! answer, and `OneListLaws`, that there is one only.
+//! Lemmas for callers: `proofs::DigitLemmas`, and `OneListLaws`, that there is one answer at most.
 //! A change here touches: the tokens of docs/FORMAT.md, `ne_printer`, `gambit_tools`.
 #![tactic(auto)]
 

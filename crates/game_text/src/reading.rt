@@ -14,6 +14,7 @@ use crate::text::{closing, text};
 use frac128::Frac;
 use game_core::{Name, Spanned, Token, Tokens};
 use std::alloc::{AllocError, AllocFailed, Global};
+use std::fmt;
 
 /// The kind of a fault in a text.
 #[derive(Clone, Copy, Debug, PartialEq, Eq)]
@@ -26,6 +27,22 @@ pub enum TextKind {
     BadNumber,
     /// A number that passes a limit; the offset is that of its first byte.
     NumberTooLarge,
+}
+
+impl fmt::Display for TextKind {
+    ghost use Rattle.std.specs.Prelude.{Some};
+    ghost use Rattle.game_text.specs.Texts.{text_kind_text};
+
+    ghost output = { λ kind. Some (text_kind_text kind) };
+
+    fn fmt<W: fmt::Write>(&self, f: &mut fmt::Formatter<W>) -> fmt::Result {
+        f.write_str(match self {
+            TextKind::BadChar => "bad character",
+            TextKind::OpenText => "unclosed text",
+            TextKind::BadNumber => "bad number",
+            TextKind::NumberTooLarge => "number too large",
+        })
+    }
 }
 
 /// A fault in a text: its kind, and the byte offset at which it stands, from 0.
@@ -134,8 +151,11 @@ fn fault(kind: TextKind, at: usize) -> TextStop
     TextStop::Fault(TextFault { at, kind })
 }
 
-/// Reads the tokens of a source in one pass. `Fault` comes exactly where the bytes are no list of tokens, and
-/// names the first fault.
+/// Reads the tokens of a source in one pass.
+///
+/// # Errors
+///
+/// `Fault` exactly where the bytes are no list of tokens, with the first fault; `Memory` where memory ran out.
 pub fn read_tokens(alloc: Global, bytes: &[u8]) -> Result<Tokens, TextStop>
     ensures { Gives Memory (tokens_of bytes.now) result }
 {

@@ -6,7 +6,8 @@ use Rattle.std.proofs.lemmas.List.{append_cancel_left, append_cancel_right}
 use Rattle.rational.specs.Gcd.{gcd}
 use Rattle.rational.specs.Rational.{ℚ, frac, is_lowest, zero_ℚ, one_ℚ}
 use Rattle.game_theory.specs.Mixed.{Mixed, later, sure, pure}
-use Rattle.game_theory.specs.Lines.{listed, entries, number_text}
+use Rattle.game_theory.specs.Lines.{listed, entries}
+use Rattle.rational.specs.Text.{number_text}
 use Rattle.game_theory.specs.Laws.{LinesDetermineProfiles}
 use Rattle.game_theory.proofs.ProfileLineLemmas.{length-entries, entries_pure-injective}
 

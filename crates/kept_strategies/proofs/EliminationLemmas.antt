@@ -1,11 +1,13 @@
 -- The strategies of a list that are not dominated, as they are found one after another.
-use Rattle.std.proofs.Common.{ℕ, ◌+◌, ◌<◌, ◌≤◌, ◌≡◌, ◌⊎◌, inl, inr, All, List, [], ◌∷◌, ◌++◌, length, take, get_or, sum, sym, ap, ◌∙◌, subst, arith}
+use Rattle.std.proofs.Common.{ℕ, ◌+◌, ◌*◌, ◌<◌, ◌≤◌, ◌-◌, ◌≡◌, ◌⊎◌, inl, inr, All, List, [], ◌∷◌, ◌++◌, length, take, replicate, set, get_or, sum, sym, ap, ◌∙◌, subst, subst₂, arith}
 use Rattle.std.specs.Prelude.{Contains}
-use Rattle.std.specs.List.Sorted.{IsStrictlyIncreasing}
-use Rattle.std.proofs.lemmas.List.{get_or-take, length-take-le, length_push, take_more}
+use Rattle.std.specs.List.Sorted.{IsNonDecreasingBy, IsStrictlyIncreasing}
+use Rattle.std.proofs.lemmas.Bool.{cases_eq, cases_lt}
+use Rattle.std.proofs.lemmas.List.{get_or-replicate, get_or-set_other, get_or-set_same, get_or-take, length-replicate, length-set, length-take-le, length_push, take_more}
 use Rattle.std.proofs.lemmas.List.Elements.{Contains-get_or, Contains-append_left, Contains-push, Contains-push_cases}
 use Rattle.std.proofs.lemmas.List.Kept.{AllPairs-from_increasing}
 use Rattle.lists.proofs.ElementLemmas.{two-elements}
+use Rattle.lists.proofs.NumberLemmas.{place-inside, place-tells}
 use Rattle.game_core.specs.Table.{GameTable, IsTable, game_of, strategy_counts}
 use Rattle.game_core.proofs.TableCountLemmas.{length-strategy_counts}
 use Rattle.game_theory.specs.Profiles.{Game}
@@ -14,6 +16,7 @@ use Rattle.extreme_equilibria.specs.Elimination.{IsDominated, AreKept, AreKeptAf
 use Rattle.extreme_equilibria.proofs.RoundLemmas.{kept-within}
 use Rattle.lists.proofs.ListedLemmas.{listed-push, listed-same}
 use Rattle.extreme_equilibria.proofs.KeptListLemmas.{place}
+use Rattle.kept_strategies.specs.Comparisons.{AreAhead, IsAheadAt, IsAheadBefore}
 use Rattle.kept_strategies.specs.Kept.{most_strategies}
 
 -- at first there is none
@@ -33,6 +36,64 @@ pub few_of_two : (t : GameTable) → IsTable t → length t.players ≡ 2 → su
 few_of_two t valid two few =
     let e = ap sum (two-elements (strategy_counts t) (length-strategy_counts t valid ∙ two)) in
     omega (arith, e, few)
+
+-- ---- pairs of strategies
+module _ (g : Game) (i : ℕ) (others firsts : List ℕ) (s r first : ℕ) where
+  -- how many strategies the player has
+  abbrev n : ℕ
+  n = get_or g.strategies i 0
+
+  -- a pair's number is kept anew
+  pub ahead-set : AreAhead g i others firsts → s < n → r < n → IsAheadBefore g i others s r first → AreAhead g i others (set firsts (s * n + r) first)
+  ahead-set h ls lr before = record {
+    each_pair = length-set firsts (s * n + r) first ∙ h.each_pair;
+    ahead = λ s' r' ls' lr'. elim (cases_eq (s' * n + r') (s * n + r)) [
+      | inl same ↦
+          let is = place-tells n s r s' r' lr lr' (sym same) in
+          let here : get_or (set firsts (s * n + r) first) (s' * n + r') 0 ≡ first = ap (λ k. get_or (set firsts (s * n + r) first) k 0) same ∙ get_or-set_same firsts (s * n + r) first 0 (rw h.each_pair (place-inside n n s r ls lr)) in
+          subst (IsAheadBefore g i others s' r') (sym here) (subst₂ (λ x y. IsAheadBefore g i others x y first) is.0 is.1 before)
+      | inr apart ↦ subst (IsAheadBefore g i others s' r') (sym (get_or-set_other firsts (s * n + r) (s' * n + r') first 0 apart)) (h.ahead s' r' ls' lr')
+    ];
+  }
+
+-- among fewer others no less is known
+pub ahead-fewer : (g : Game) (i : ℕ) (others fewer firsts : List ℕ) → ((t : ℕ) → Contains fewer t → Contains others t) → AreAhead g i others firsts → AreAhead g i fewer firsts
+ahead-fewer g i others fewer firsts less h = record { each_pair = h.each_pair; ahead = λ s r ls lr t c l. h.ahead s r ls lr t (less t c) l }
+
+-- at first nothing is known
+pub nothing-ahead : (g : Game) (i : ℕ) (others firsts : List ℕ) → firsts ≡ replicate (get_or g.strategies i 0 * get_or g.strategies i 0) 0 → AreAhead g i others firsts
+nothing-ahead g i others firsts is = record {
+  each_pair = ap length is ∙ length-replicate _ 0;
+  ahead = λ s r ls lr t c l. absurd (omega (arith, l, ap (λ xs. get_or xs (s * get_or g.strategies i 0 + r) 0) is ∙ get_or-replicate _ _ 0 0 (place-inside _ _ s r ls lr)));
+}
+
+-- ---- the first that is not ahead
+-- a list that rises does not fall
+pub rises : (xs : List ℕ) → IsStrictlyIncreasing xs → IsNonDecreasingBy (λ x. x) xs
+rises xs up j k d h l = elim (cases_eq j k) [ inl same ↦ omega (arith, ap (λ x. get_or xs x d) same) | inr apart ↦ omega (arith, AllPairs-from_increasing xs up j k d (omega (arith, h, apart)) l) ]
+
+module _ (g : Game) (i : ℕ) (others : List ℕ) (s r from start : ℕ) (up : IsStrictlyIncreasing others) (known : IsAheadBefore g i others s r from) (below : (k : ℕ) → k < length others → get_or others k 0 < from ⊎ (start ≤ k)) where
+  -- those before one place, where it is so from the start on
+  pub ahead-before : (k : ℕ) → k < length others → ((j : ℕ) → start + j < k → IsAheadAt g i s r (get_or others (start + j) 0)) → IsAheadBefore g i others s r (get_or others k 0)
+  ahead-before k l ahead t c less =
+      let p = place others t 0 c in
+      let before : p.0 < k = elim (cases_lt p.0 k) [ inl is ↦ is | inr not ↦ absurd (omega (arith, p.2, less, rises others up k p.0 0 (omega (arith, not)) p.1)) ] in
+      at p.0 p.1 before t p.2
+    where
+      at : (j : ℕ) → j < length others → j < k → (t : ℕ) → get_or others j 0 ≡ t → IsAheadAt g i s r t
+      at j m h t is = elim (below j m) [
+        | inl early ↦ known t (subst (Contains others) is (Contains-get_or others j 0 m)) (subst (λ x. x < from) is early)
+        | inr late ↦ let e : start + (j - start) ≡ j = omega arith in subst (IsAheadAt g i s r) (ap (λ x. get_or others x 0) e ∙ is) (ahead (j - start) (omega (arith, h, e)))
+      ]
+
+  -- or all of them
+  pub ahead-all : ((j : ℕ) → start + j < length others → IsAheadAt g i s r (get_or others (start + j) 0)) → (t : ℕ) → Contains others t → IsAheadAt g i s r t
+  ahead-all ahead t c =
+      let p = place others t 0 c in
+      elim (below p.0 p.1) [
+        | inl early ↦ known t c (omega (arith, early, p.2))
+        | inr late ↦ let e : start + (p.0 - start) ≡ p.0 = omega arith in subst (IsAheadAt g i s r) (ap (λ x. get_or others x 0) e ∙ p.2) (ahead (p.0 - start) (omega (arith, p.1, e)))
+      ]
 
 -- a round's list of a player
 abbrev pub Round : Game → ℕ → List ℕ → List ℕ → List ℕ → Type 0

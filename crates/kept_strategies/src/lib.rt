@@ -6,6 +6,7 @@
 //! no equilibrium.
 //! Definitions: `specs::Kept` says what the table over the kept strategies is, and what a table
 //! answers (`kept_of`).
+//! Private words: `specs::Comparisons`, what is known of pairs of strategies.
 //! Lemmas for callers: `proofs::EliminationLemmas` on kept strategies (`kept-all`),
 //! `KeptSingleLemmas` on what a table answers.
 //! A change here touches: `enummixed`, `refusals`, `gambit_tools`.

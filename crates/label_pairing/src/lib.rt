@@ -6,8 +6,7 @@
 //! mask, `Scaling` the steps of scaling, `Stops` what is answered.
 //! Private words: the modules `candidates`, the masks among which partners are looked for, and
 //! `counting`, which counts the pairs before they are listed.
-//! Lemmas for callers: `proofs::AllPairLemmas` and `RowLemmas` on the list of pairs; `StopLemmas`
-//! on the answers.
+//! Lemmas for callers: `proofs::AllPairLemmas` on the list of pairs; `StopLemmas` on the answers.
 //! A change here touches: `enummixed`, the limit on pairs and the counts of `make`.
 #![tactic(auto)]
 

@@ -17,7 +17,7 @@ pub(crate) struct Keys<'a> {
     pub(crate) nonbasics: &'a [u32],
     /// How many rows are rated.
     pub(crate) rated: usize,
-    /// The numbers, row by row.
+    /// The numbers of the rows, as a `Tableau` keeps them.
     pub(crate) numbers: &'a [i128],
 }
 

@@ -15,9 +15,13 @@ use std::marker::Model;
 /// at most the number of rows. Rows and columns are counted from 0.
 #[derive(Debug, Drop)]
 pub struct System {
+    /// The basic variables, row by row.
     pub(crate) basics: Vec<u32>,
+    /// The nonbasic variables, column by column.
     pub(crate) nonbasics: Vec<u32>,
+    /// The cells, row by row, with the right side last in each row.
     pub(crate) cells: Vec<Frac>,
+    /// How many of the first rows take part in ratio tests.
     pub(crate) rated: usize,
 }
 
@@ -68,6 +72,10 @@ impl System {
 }
 
 /// The variables `first`, `first + 1` and so on, `count` of them.
+///
+/// # Errors
+///
+/// Memory ran out.
 pub fn numbered(alloc: Global, first: u32, count: u32) -> Result<Vec<u32>, Memory>
     requires { first + count < 2 ^ 32 }
     ensures { IfOk result (λ numbers. AreNumbered first count numbers.items) }

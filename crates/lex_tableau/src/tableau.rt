@@ -32,12 +32,18 @@ use whole_rows::{fraction, write_pivot, write_starts};
 /// and `tableau` of them is the tableau of fractions. Rows and columns count from 0.
 #[derive(Debug, Drop)]
 pub struct Tableau {
+    /// The basic variables of the start.
     starts: Vec<u32>,
-    // The column of each of `starts`, counted from 1, and 0 where it is basic.
+    /// The column of each of `starts`, counted from 1, and 0 where it is basic.
     columns: Vec<u32>,
+    /// The basic variables, row by row.
     basics: Vec<u32>,
+    /// The nonbasic variables, column by column.
     nonbasics: Vec<u32>,
+    /// How many of the first rows take part in ratio tests.
     rated: usize,
+    /// Row by row the denominator of the row, its numerators, column by column, and that of its
+    /// right side: two numbers more than there are columns.
     numbers: Vec<i128>,
 }
 
@@ -89,7 +95,9 @@ fn copied(room: Vec<u32>, xs: &[u32]) -> Result<Vec<u32>, Memory>
 /// Why a pivot gives no tableau: its first step that does not fit, or no memory.
 #[derive(Debug, Drop)]
 pub enum PivotStop {
+    /// The first step that does not fit.
     Unfit(Unfit),
+    /// Memory ran out.
     Memory,
 }
 
@@ -119,7 +127,14 @@ impl From<Memory> for PivotStop {
 /// memory.
 #[derive(Debug, Drop)]
 pub enum StartStop {
-    Unfit { row: u32, unfit: Unfit },
+    /// A step of a row does not fit.
+    Unfit {
+        /// The row.
+        row: u32,
+        /// Its first such step.
+        unfit: Unfit,
+    },
+    /// Memory ran out.
     Memory,
 }
 

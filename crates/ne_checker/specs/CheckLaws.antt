@@ -29,7 +29,8 @@ TellsOfMixed g m text =
     × ShowsBetterStrategy g m player reply payoff best
     × (text ≡ better_text player payoff best (reply ∷ [])))
 
--- likewise of behaviour on a tree, with a reply that pays the most
+-- likewise of behaviour on a tree, with a reply that pays the most: at each of the player's sets
+-- the first action that is worth the most
 abbrev pub TellsOfBehaviour : Tree → Behaviour → List ℕ → Type 0
 TellsOfBehaviour t b text =
     (IsTreeEquilibrium t b × (text ≡ equilibrium_text))

@@ -4,7 +4,7 @@ use Rattle.std.specs.Fmt.{decimal}
 use Rattle.std.specs.List.{flat_map}
 use Rattle.answers.specs.Answers.{Answer, only, refused}
 use Rattle.rational.specs.Rational.{ℚ}
-use Rattle.game_theory.specs.Lines.{number_text}
+use Rattle.rational.specs.Text.{number_text}
 use Rattle.ne_checker.specs.declared.stops.CheckStop.{CheckStop}
 use Rattle.ne_checker.specs.declared.stops.CheckStop.TheVariants as stops
 use Rattle.verdicts.specs.declared.tables.TableVerdict.{TableVerdict}

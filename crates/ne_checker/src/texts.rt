@@ -6,7 +6,6 @@ ghost use Rattle.ne_checker.specs.Texts.{better_start, better_text, choice_text,
 
 use answers::Memory;
 use frac128::Frac;
-use ne_printer::fraction_text;
 use std::alloc::Global;
 use verdicts::Scratch;
 
@@ -22,8 +21,6 @@ fn better_start(alloc: Global, player: u32, payoff: Frac, best: Frac) -> Result<
     ensures { IfOk result (λ text. text.items ≡ better_start player payoff best) }
 {
     let number = u64::from(player) + 1;
-    let payoff = fraction_text(alloc, payoff)?;
-    let best = fraction_text(alloc, best)?;
     let text = format!(in alloc; "better,{number},{payoff},{best}")?;
     Ok(text.into_bytes())
 }

@@ -7,7 +7,8 @@ use Rattle.std.specs.Fmt.{decimal, signed_decimal}
 use Rattle.std.proofs.lemmas.Fmt.{decimal_digit}
 use Rattle.std.proofs.lemmas.List.{append-nil}
 use Rattle.rational.specs.Rational.{ℚ}
-use Rattle.game_theory.specs.Lines.{number_text, line_text}
+use Rattle.game_theory.specs.Lines.{line_text}
+use Rattle.rational.specs.Text.{number_text}
 use Rattle.ne_printer.specs.Entries.{entries_text, line_start, BeginsWith}
 
 -- the text of a whole number from 0 to 9, by its numerator as it is cast

@@ -11,7 +11,8 @@ use Rattle.rational.specs.Rational.{ℚ, frac, whole}
 use Rattle.rational.proofs.DenominatorLemmas.{den_pos}
 use Rattle.rational.proofs.FractionLemmas.{frac_self}
 use Rattle.rational.proofs.PartLemmas.{whole-own_num}
-use Rattle.game_theory.specs.Lines.{number_text, line_text}
+use Rattle.game_theory.specs.Lines.{line_text}
+use Rattle.rational.specs.Text.{number_text}
 use Rattle.ne_printer.specs.ReadLines.{IsWholeNumber, IsFraction, IsEntry, IsLine}
 
 -- the decimal of a number is that number

@@ -2,7 +2,7 @@
 use Rattle.std.specs.Prelude.{ℕ, ◌<◌, ◌≡◌, pos, List, [], ◌∷◌, ◌++◌, codes}
 use Rattle.std.specs.List.{flat_map}
 use Rattle.rational.specs.Rational.{ℚ}
-use Rattle.game_theory.specs.Lines.{number_text}
+use Rattle.rational.specs.Text.{number_text}
 
 -- an entry after a comma
 abbrev pub entry_text : ℚ → List ℕ

@@ -12,8 +12,9 @@
 
 mod reading;
 
-ghost use Rattle.std.specs.Prelude.{◌≡◌, [], ◌∷◌, ◌++◌, string_bytes, IfOk, OnOk, OnErr, MatchOption};
-ghost use Rattle.game_theory.specs.Lines.{line_text, number_text};
+ghost use Rattle.std.specs.Prelude.{◌≡◌, [], ◌∷◌, ◌++◌, IfOk, OnOk, OnErr, MatchOption};
+ghost use Rattle.game_theory.specs.Lines.{line_text};
+ghost use Rattle.rational.specs.Text.{number_text};
 ghost use Rattle.ne_printer.specs.Entries.{entry_text, entries_text, numbers_line, line_start, BeginsWith, IsOneDigit};
 
 use answers::Memory;
@@ -21,29 +22,23 @@ use frac128::Frac;
 pub use reading::{LineStop, first_line, lines_are_single, lines_read_back, read_line};
 use std::alloc::Global;
 
-/// The text of a fraction: the numerator, with a `-` first where it is negative, and after `/` the denominator
-/// where that is not 1.
-pub fn fraction_text(alloc: Global, value: Frac) -> Result<String, Memory>
-    ensures { IfOk result (λ text. string_bytes text ≡ number_text value) }
-{
-    let num = value.num();
-    let den = value.den();
-    if den == 1 {
-        Ok(format!(in alloc; "{num}")?)
-    } else {
-        Ok(format!(in alloc; "{num}/{den}")?)
-    }
-}
-
 /// The bytes of the text of a fraction.
+///
+/// # Errors
+///
+/// Memory ran out.
 pub fn fraction(alloc: Global, value: Frac) -> Result<Vec<u8>, Memory>
     ensures { IfOk result (λ text. text.items ≡ number_text value) }
 {
-    Ok(fraction_text(alloc, value)?.into_bytes())
+    Ok(value.to_string(alloc)?.into_bytes())
 }
 
 /// Adds the text of a fraction to a text, which stays as it was where memory runs out. A whole number from 0 to 9,
 /// as most are, takes no memory besides.
+///
+/// # Errors
+///
+/// Memory ran out.
 pub fn push_fraction(alloc: Global, text: &mut Vec<u8>, value: Frac) -> Result<(), Memory>
     ensures fraction { OnOk result (text.new.items ≡ text.old.items ++ number_text value) }
     ensures memory { OnErr result (text.new.items ≡ text.old.items) }
@@ -51,13 +46,17 @@ pub fn push_fraction(alloc: Global, text: &mut Vec<u8>, value: Frac) -> Result<(
     if let Some(digit) = one_digit(value) {
         text.push(digit)?;
     } else {
-        let written = fraction_text(alloc, value)?;
+        let written = value.to_string(alloc)?;
         text.extend_from_slice(written.as_bytes())?;
     }
     Ok(())
 }
 
 /// Adds a line to a text: a name, each number after a comma, and a line feed.
+///
+/// # Errors
+///
+/// Memory ran out.
 pub fn push_numbers(
     alloc: Global,
     text: &mut Vec<u8>,
@@ -78,6 +77,10 @@ pub fn push_numbers(
 
 /// Adds the line of an equilibrium with these entries to a text: `NE,`, the entries with commas between them, and
 /// a line feed.
+///
+/// # Errors
+///
+/// Memory ran out.
 pub fn push_line(alloc: Global, text: &mut Vec<u8>, entries: &[Frac]) -> Result<(), Memory>
     ensures line { OnOk result (text.new.items ≡ text.old.items ++ line_text entries.now) }
     ensures memory { OnErr result (text.new.items ≡ text.old.items) }
@@ -86,6 +89,10 @@ pub fn push_line(alloc: Global, text: &mut Vec<u8>, entries: &[Frac]) -> Result<
 }
 
 /// The line of an equilibrium with these entries: `NE,`, the entries with commas between them, and a line feed.
+///
+/// # Errors
+///
+/// Memory ran out.
 pub fn line(alloc: Global, entries: &[Frac]) -> Result<Vec<u8>, Memory>
     ensures { IfOk result (λ line. line.items ≡ line_text entries.now) }
 {

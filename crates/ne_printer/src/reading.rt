@@ -145,9 +145,13 @@ fn entries_in(alloc: Global, text: &[u8]) -> Result<Vec<Frac>, LineStop>
     Ok(entries)
 }
 
-/// The entries of a line without its line feed, as `NE,1/2,1/2,1,0`. `Bad` where the line is not
-/// `NE,` and after it nothing, or fractions with single commas between them. A fraction is 1 to 39
-/// digits, or two such numbers with `/` between them, each at most 2^127 - 1 and the second not 0.
+/// The entries of a line without its line feed, as `NE,1/2,1/2,1,0`.
+///
+/// # Errors
+///
+/// `Bad` exactly where the line is not `NE,` and after it nothing, or fractions with single commas
+/// between them. A fraction is 1 to 39 digits, or two such numbers with `/` between them, each at
+/// most 2^127 - 1 and the second not 0. `Memory` where memory ran out.
 pub fn read_line(alloc: Global, line: &[u8]) -> Result<Vec<Frac>, LineStop>
     ensures { Gives stops.Memory (line_in line.now) (map_ok result (λ entries. entries.items)) }
 {

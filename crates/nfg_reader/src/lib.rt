@@ -3,7 +3,8 @@
 //! Callers may rely on: `read` gives the table of a file; a fault with its kind and offset, or the
 //! limit on payoffs, comes exactly where the tokens are no file; tokens have at most one answer.
 //! Definitions: `specs::TableFile` has the grammar, `specs::Faults` the faults of tokens that are
-//! no file, `specs::Stops` what tokens answer (`table_in`).
+//! no file, `specs::Stops` what tokens answer (`table_in`), `specs::Texts` how a fault's kind is
+//! displayed.
 //! Private words: `specs::Fronts`, what the code keeps of a front.
 //! Lemmas for callers: `proofs::OneAnswerLaws`, that tokens have at most one answer.
 //! A change here touches: the tables of docs/FORMAT.md, `gambit_tools` and `refusals`.

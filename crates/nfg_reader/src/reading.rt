@@ -18,6 +18,7 @@ use file_parts::{PartStop, offset};
 use frac128::Frac;
 use game_core::{MOST_PAYOFFS, Table, Tokens, TooLarge, What};
 use std::alloc::{AllocError, Global};
+use std::fmt;
 
 /// The kind of a fault in a file of a table.
 #[derive(Clone, Copy, Debug, PartialEq, Eq)]
@@ -34,6 +35,24 @@ pub enum NfgKind {
     PayoffCount,
     /// A token after the end.
     Trailing,
+}
+
+impl fmt::Display for NfgKind {
+    ghost use Rattle.std.specs.Prelude.{Some};
+    ghost use Rattle.nfg_reader.specs.Texts.{nfg_kind_text};
+
+    ghost output = { λ kind. Some (nfg_kind_text kind) };
+
+    fn fmt<W: fmt::Write>(&self, f: &mut fmt::Formatter<W>) -> fmt::Result {
+        f.write_str(match self {
+            NfgKind::Header => "header",
+            NfgKind::Players => "players",
+            NfgKind::Strategies => "strategies",
+            NfgKind::Outcome => "outcome",
+            NfgKind::PayoffCount => "payoff count",
+            NfgKind::Trailing => "trailing",
+        })
+    }
 }
 
 /// A fault in a file of a table: its kind, and the byte offset from 0 of the token named, or the source's length

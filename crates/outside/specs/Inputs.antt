@@ -10,6 +10,8 @@ InputName = Option (List ℕ)
 pub record InputsSeen : Type 0 where
   -- the bytes under each name, and under none
   pub held : InputName → Option (List ℕ)
+  -- whether it is known that no input has a name
+  pub absent : InputName → Bool
   -- the bytes left of the selected input
   pub left : Option (List ℕ)
   -- the selected input, and the one whose call failed last: nothing where there is none

@@ -15,24 +15,27 @@ pub struct ReadFailed;
 
 /// Inputs by name, and one without a name. At most one of them is selected, and only that one is read.
 pub trait Inputs {
-    /// What can be seen of them: bytes where they are known, the selected and the failed input, whether the end
+    /// What can be seen of them: bytes where they are known, names that are known to be those of no input, the selected and the failed input, whether the end
     /// of the selected one was met, and the counts of selections, of those in which the end was met, and of failed
     /// calls. A count stands still at 2^64 - 1.
     ghost seen: { Self → InputsSeen };
 
     /// Selects an input, of which all bytes are then left, and whose end was not met yet. A name is kept and not
-    /// copied. `OpenFailed` counts one more in `open_faults`; then the input is the failed one, and nothing is
+    /// copied. A name that is known to be that of no input is refused. `OpenFailed` counts one more in `open_faults`; then the input is the failed one, and nothing is
     /// selected.
     fn select(&mut self, name: Option<String>) -> Result<(), OpenFailed>
         ensures selects { OnOk result ((seen self.new).selected
             ≡ Some (option_map string_bytes name)) }
         ensures all_left { OnOk result ((seen self.new).left
             ≡ (seen self.old).held (option_map string_bytes name)) }
+        ensures is_there { OnOk result
+            ((seen self.old).absent (option_map string_bytes name) ≡ false) }
         ensures failed_stays { OnOk result ((seen self.new).failed ≡ (seen self.old).failed) }
         ensures fails { OnErr result ((seen self.new).failed
             ≡ Some (option_map string_bytes name)) }
         ensures selects_nothing { OnErr result ((seen self.new).selected ≡ None) }
         ensures held { (n : InputName) → (seen self.new).held n ≡ (seen self.old).held n }
+        ensures absent { (n : InputName) → (seen self.new).absent n ≡ (seen self.old).absent n }
         ensures not_at_end { (seen self.new).at_end ≡ false }
         ensures selections { (seen self.new).selections ≡ next_count (seen self.old).selections }
         ensures ends { (seen self.new).ends ≡ (seen self.old).ends }
@@ -53,6 +56,7 @@ pub trait Inputs {
         ensures fails { OnErr result ((seen self.new).failed ≡ (seen self.old).selected) }
         ensures selects_nothing { OnErr result ((seen self.new).selected ≡ None) }
         ensures held { (n : InputName) → (seen self.new).held n ≡ (seen self.old).held n }
+        ensures absent { (n : InputName) → (seen self.new).absent n ≡ (seen self.old).absent n }
         ensures at_end { IfOk result (λ count. (seen self.new).at_end
             ≡ ((seen self.old).at_end
             || meets_end (seen self.old).selected (length buf.old) count)) }

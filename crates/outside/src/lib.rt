@@ -6,7 +6,6 @@
 //! `read_some` hands on what a source gives.
 //! Definitions: `specs::Inputs` and `specs::Sink` say what contracts see of both, `specs::Counts`
 //! how calls that fail are counted, `specs::RealInputs` and `specs::RealSink` what the real ones keep.
-//! Lemmas for callers: `proofs::CountLemmas`, that a count of one more rose.
 //! Private words: the module `tries`.
 //! A change here touches: the contract of `run`, and `claims`, `basis_enum` and `enummixed`, which
 //! pass the gate.

@@ -1,5 +1,5 @@
 // Inputs in memory.
-ghost use Rattle.std.specs.Prelude.{◌≡◌, ◌↔◌, ◌⊎◌, ◌+◌, ◌<◌, ◌^◌, ◌||◌, false, [], length, map, min, take, drop, ◌++◌, Some, None, Ok, IsTrue, IsErr, IsSome, IfOk, OnOk, OnErr, Contains, option_map, string_bytes};
+ghost use Rattle.std.specs.Prelude.{◌≡◌, ◌↔◌, ◌⊎◌, ◌+◌, ◌<◌, ◌^◌, ◌||◌, false, [], length, map, min, take, drop, ◌++◌, Some, None, Ok, IsTrue, IsErr, IsSome, IfOk, OnOk, OnErr, Contains, is_none, option_map, string_bytes};
 ghost use Rattle.std.specs.Option.{option_copied};
 ghost use Rattle.std.specs.Io.{ReadsAtMost};
 ghost use Rattle.std.specs.Io.KnownBytes.{ReadConsumes};
@@ -73,6 +73,10 @@ impl MemInputs {
         ensures held { (n : InputName)
             → (⟦<MemInputs as Inputs>⟧.seen result).held n
             ≡ bytes_held plain.items (map (λ p. (string_bytes p.0, p.1.items)) named.items) n }
+        ensures absent { (n : InputName)
+            → (⟦<MemInputs as Inputs>⟧.seen result).absent n
+            ≡ is_none
+            (bytes_held plain.items (map (λ p. (string_bytes p.0, p.1.items)) named.items) n) }
         ensures left { (⟦<MemInputs as Inputs>⟧.seen result).left ≡ Some [] }
         ensures selected { (⟦<MemInputs as Inputs>⟧.seen result).selected ≡ None }
         ensures failed { (⟦<MemInputs as Inputs>⟧.seen result).failed ≡ None }
@@ -150,6 +154,7 @@ impl MemInputs {
 impl Inputs for MemInputs {
     ghost seen = { λ s. record {
       held = bytes_held s.plain s.named;
+      absent = λ n. is_none (bytes_held s.plain s.named n);
       left = Some (bytes_left s);
       selected = s.selected;
       failed = s.failed;
@@ -165,12 +170,18 @@ impl Inputs for MemInputs {
         ensures selects { OnOk result (self.new.selected ≡ Some (option_map string_bytes name)) }
         ensures all_left { OnOk result (Some (bytes_left self.new)
             ≡ bytes_held self.old.plain self.old.named (option_map string_bytes name)) }
+        ensures is_there { OnOk result
+            (is_none (bytes_held self.old.plain self.old.named (option_map string_bytes name))
+            ≡ false) }
         ensures failed_stays { OnOk result (self.new.failed ≡ self.old.failed) }
         ensures fails { OnErr result (self.new.failed ≡ Some (option_map string_bytes name)) }
         ensures selects_nothing { OnErr result (self.new.selected ≡ None) }
         ensures held { (n : InputName)
             → bytes_held self.new.plain self.new.named n
             ≡ bytes_held self.old.plain self.old.named n }
+        ensures absent { (n : InputName)
+            → is_none (bytes_held self.new.plain self.new.named n)
+            ≡ is_none (bytes_held self.old.plain self.old.named n) }
         ensures not_at_end { self.new.at_end ≡ false }
         ensures selections { self.new.selections ≡ next_count self.old.selections }
         ensures ends { self.new.ends ≡ self.old.ends }
@@ -230,6 +241,9 @@ impl Inputs for MemInputs {
         ensures held { (n : InputName)
             → bytes_held self.new.plain self.new.named n
             ≡ bytes_held self.old.plain self.old.named n }
+        ensures absent { (n : InputName)
+            → is_none (bytes_held self.new.plain self.new.named n)
+            ≡ is_none (bytes_held self.old.plain self.old.named n) }
         ensures at_end { IfOk result (λ count. self.new.at_end
             ≡ (self.old.at_end || meets_end self.old.selected (length buf.old) count)) }
         ensures not_at_end { OnErr result (self.new.at_end ≡ false) }

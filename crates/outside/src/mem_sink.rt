@@ -42,6 +42,10 @@ impl Model for MemSink {
 
 impl MemSink {
     /// An empty sink with room for `limit` bytes, so that no write takes memory.
+    ///
+    /// # Errors
+    ///
+    /// Memory ran out.
     pub fn new(
         alloc: Global,
         most: usize,

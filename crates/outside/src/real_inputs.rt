@@ -97,6 +97,7 @@ impl<'a, R: Files + Input + Drop> RealInputs<'a, R> {
 impl<'a, R: Files + Input + Drop> Inputs for RealInputs<'a, R> {
     ghost seen = { λ s. record {
       held = λ _. None;
+      absent = λ _. false;
       left = None;
       selected = s.selected;
       failed = s.failed;
@@ -227,8 +228,11 @@ fn open_named<R: Files>(rt: &R, name: &Option<String>) -> Result<Option<R::File>
 }
 
 /// Reads to the front of a buffer, and answers how many bytes: one call of the source, which is
-/// repeated where it was interrupted, at most 1,000 times. After that, and where the source answers
-/// another error, the call fails.
+/// repeated where it was interrupted, at most 1,000 times.
+///
+/// # Errors
+///
+/// The source answered another error, or was interrupted each time.
 pub fn read_some<S: Read>(source: &mut S, buf: &mut [u8]) -> Result<usize, ReadFailed>
     ensures bound { ReadsAtMost result buf.new }
     ensures bytes { ReadConsumes (S.remaining source.old) (S.remaining source.new) result buf.new }

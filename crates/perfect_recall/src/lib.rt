@@ -7,7 +7,7 @@
 //! perfect recall is.
 //! Private words: `specs::LastEdges` and `specs::Members`: histories are compared by their ends.
 //! Lemmas for callers: `proofs::HistoryLemmas` on own histories; `MemberLemmas` on a set's nodes.
-//! A change here touches: the refusal `Forgets`, `sequence_form`, `ne_checker`.
+//! A change here touches: the refusal `Forgets`, `sequence_form`, `verdicts`, `ne_checker`.
 #![tactic(auto)]
 
 mod find;

@@ -33,6 +33,10 @@ fn rooms(alloc: Global, tree: &Tree) -> Result<Vec<Vec<u32>>, Memory>
 }
 
 /// For each node its children, one for each action of its set in order, and nothing more.
+///
+/// # Errors
+///
+/// Memory ran out.
 pub fn children_of_all(alloc: Global, tree: &Tree) -> Result<Vec<Vec<u32>>, Memory>
     ensures children { IfOk result
         (λ lists. AreChildren (game_of_tree tree.now) (map (λ v. v.items) lists.items)) }

@@ -11,7 +11,8 @@
 //! Private words: `specs::Shortcuts` and `Settled`, what is kept from choices to choices.
 //! Lemmas for callers: `proofs::NodeStepLemmas` on the steps of a node, `BranchStepLemmas` on those
 //! of a branch of chance, `ChoiceLemmas` on choices, `PlaceLemmas` on children and strategies.
-//! A change here touches: `reduced_form`, `behaviour_profile`, `subgames` and `ne_checker`.
+//! A change here touches: `reduced_form`, `behaviour_profile`, `enumpure_trees`, `verdicts` and
+//! `two_player_tools`.
 #![tactic(auto)]
 
 mod children;

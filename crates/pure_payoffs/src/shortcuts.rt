@@ -148,6 +148,10 @@ impl<'a> Model for Shortcuts<'a> {
 
 impl<'a> Shortcuts<'a> {
     /// Those of a tree, before its first choices.
+    ///
+    /// # Errors
+    ///
+    /// Memory ran out.
     pub fn new(alloc: Global, tree: &'a Tree) -> Result<Shortcuts<'a>, Memory>
         ensures { IfOk result (λ shortcuts. shortcuts ≡ tree.now) }
     {

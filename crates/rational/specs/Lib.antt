@@ -8,3 +8,4 @@ pub mod Rational
 pub mod RingLaws
 pub mod Sum
 pub mod Tests
+pub mod Text

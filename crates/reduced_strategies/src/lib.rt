@@ -7,8 +7,8 @@
 //! Lemmas for callers: `proofs::AgreementLemmas` on own histories, `SetLemmas` and
 //! `StrategyProfileLemmas` on what choice lists give the sets, `ReducedStrategyLemmas` and
 //! `TreeEquilibriaLemmas` on completions.
-//! A change here touches: `strategy_lists`, `pure_payoffs`, `reduced_form` and what the tools print
-//! of trees; the laws of `best_replies` and `sequence_forms`.
+//! A change here touches: `strategy_lists`, `pure_payoffs`, `reduced_form`, `behaviour_profile`,
+//! `enumpure_trees` and what the tools print of trees.
 #![tactic(auto)]
 
 ghost use Rattle.reduced_strategies.specs.Examples.{ReducedStrategiesOfOnePlayer};

@@ -1,22 +1,17 @@
 -- The status and the line of each refusal.
 use Rattle.std.specs.Prelude.{ℕ, ◌+◌, ◌≡◌, ◌⊎◌, List, [], ◌∷◌, ◌++◌, Option, None, Some, codes}
-use Rattle.std.specs.List.{flat_map}
 use Rattle.std.specs.Fmt.{decimal}
-use Rattle.game_core.specs.declared.too_large.What.{What}
-use Rattle.game_core.specs.declared.too_large.What.TheVariants as what
-use Rattle.game_text.specs.declared.reading.TextKind.{TextKind}
-use Rattle.game_text.specs.declared.reading.TextKind.TheVariants as text_kind
-use Rattle.nfg_reader.specs.declared.reading.NfgKind.{NfgKind}
-use Rattle.nfg_reader.specs.declared.reading.NfgKind.TheVariants as nfg_kind
-use Rattle.frac128.specs.declared.steps.Op.{Op}
-use Rattle.frac128.specs.declared.steps.Op.TheVariants.{Add, Sub, Mul, Div}
-use Rattle.game_theory.specs.Lines.{number_text}
-use Rattle.tree_grammar.specs.declared.kinds.EfgKind.{EfgKind}
-use Rattle.tree_grammar.specs.declared.kinds.EfgKind.TheVariants as efg_kind
+use Rattle.rational.specs.Text.{number_text}
+use Rattle.frac128.specs.Texts.{step_text}
+use Rattle.basis_enum.specs.Texts.{spaced}
+use Rattle.game_core.specs.Texts.{what_text}
+use Rattle.game_text.specs.Texts.{text_kind_text}
+use Rattle.nfg_reader.specs.Texts.{nfg_kind_text}
+use Rattle.tree_grammar.specs.Texts.{efg_kind_text}
 use Rattle.words.specs.declared.Usage.{Usage}
 use Rattle.words.specs.declared.Usage.TheVariants as usage
-use Rattle.refusals.specs.declared.refusal.Site.{Site}
-use Rattle.refusals.specs.declared.refusal.Site.TheVariants as site
+use Rattle.refusals.specs.declared.site.Site.{Site}
+use Rattle.refusals.specs.declared.site.Site.TheVariants as site
 use Rattle.refusals.specs.declared.refusal.Refusal.{Refusal}
 use Rattle.refusals.specs.declared.refusal.Refusal.TheVariants as refusal
 
@@ -51,59 +46,6 @@ abbrev pub usage_text : Usage → List ℕ
 usage_text usage.NoTool = codes "no tool"
 usage_text usage.UnknownTool = codes "unknown tool"
 usage_text usage.Words = codes "words not understood"
-
--- the kind of a fault of a text
-abbrev pub text_kind_text : TextKind → List ℕ
-text_kind_text text_kind.BadChar = codes "bad character"
-text_kind_text text_kind.OpenText = codes "unclosed text"
-text_kind_text text_kind.BadNumber = codes "bad number"
-text_kind_text text_kind.NumberTooLarge = codes "number too large"
-
--- the kind of a fault of a file of a table
-abbrev pub nfg_kind_text : NfgKind → List ℕ
-nfg_kind_text nfg_kind.Header = codes "header"
-nfg_kind_text nfg_kind.Players = codes "players"
-nfg_kind_text nfg_kind.Strategies = codes "strategies"
-nfg_kind_text nfg_kind.Outcome = codes "outcome"
-nfg_kind_text nfg_kind.PayoffCount = codes "payoff count"
-nfg_kind_text nfg_kind.Trailing = codes "trailing"
-
--- an operation
-abbrev pub op_text : Op → List ℕ
-op_text Add = codes "add"
-op_text Sub = codes "sub"
-op_text Mul = codes "mul"
-op_text Div = codes "div"
-
--- the kind of a fault of a file of a tree
-abbrev pub efg_kind_text : EfgKind → List ℕ
-efg_kind_text efg_kind.Header = codes "header"
-efg_kind_text efg_kind.Players = codes "players"
-efg_kind_text efg_kind.Node = codes "node"
-efg_kind_text efg_kind.UnknownPlayer = codes "unknown player"
-efg_kind_text efg_kind.SetMismatch = codes "set mismatch"
-efg_kind_text (efg_kind.Probability set sum) = codes "probability of set " ++ decimal set ++ codes " sums to " ++ number_text sum
-efg_kind_text (efg_kind.ProbabilityRange set unfit) =
-    codes "probability of set " ++ decimal set ++ codes " out of range: " ++ op_text unfit.op ++ codes " " ++ number_text unfit.left ++ codes " " ++ number_text unfit.right
-efg_kind_text efg_kind.OutcomeMismatch = codes "outcome mismatch"
-efg_kind_text efg_kind.Unfinished = codes "unfinished"
-efg_kind_text efg_kind.Trailing = codes "trailing"
-
--- what there are too many of
-abbrev pub what_text : What → List ℕ
-what_text what.Payoffs = codes "payoffs"
-what_text what.Choices = codes "choices"
-what_text what.Nodes = codes "nodes"
-what_text what.Depth = codes "depth"
-what_text what.Labels = codes "labels"
-what_text what.Bases = codes "bases"
-what_text what.Pairs = codes "pairs"
-what_text what.Rows = codes "rows"
-what_text what.Text = codes "bytes of text"
-
--- numbers, each after a space
-abbrev pub spaced : List ℕ → List ℕ
-spaced numbers = flat_map (λ n. codes " " ++ decimal n) numbers
 
 -- where a step stands; profiles, choices, nodes, players, rows of a start and polytopes are counted from 1,
 -- as lines are everywhere, levels and sequences from 0: sequence 0 is the empty one
@@ -161,11 +103,10 @@ refusal_text (refusal.TooLarge passed) =
     codes "too large: " ++ decimal passed.count ++ codes " " ++ what_text passed.what
     ++ codes ", limit " ++ decimal passed.limit
 refusal_text (refusal.Range place step) =
-    codes "range in " ++ site_text place ++ codes ": " ++ op_text step.op
-    ++ codes " " ++ number_text step.left ++ codes " " ++ number_text step.right
+    codes "range in " ++ site_text place ++ codes ": " ++ step_text step
 refusal_text (refusal.SubgameRange node place step) =
     codes "range in subgame " ++ decimal (node + 1) ++ codes " " ++ site_text place ++ codes ": "
-    ++ op_text step.op ++ codes " " ++ number_text step.left ++ codes " " ++ number_text step.right
+    ++ step_text step
 refusal_text (refusal.BadLine line) = codes "line " ++ decimal line ++ codes " is not a profile"
 refusal_text (refusal.NoSuchPlayer number) = codes "no player " ++ decimal number
 refusal_text (refusal.SamePlayer number) =

@@ -1,4 +1,6 @@
 -- The refusals by which the layers' reasons to stop are told.
+use Rattle.words.specs.declared.SettingsStop.{SettingsStop}
+use Rattle.words.specs.declared.SettingsStop.TheVariants as settings_stop
 use Rattle.game_text.specs.declared.reading.TextStop.{TextStop}
 use Rattle.game_text.specs.declared.reading.TextStop.TheVariants as text_stop
 use Rattle.nfg_reader.specs.declared.reading.NfgStop.{NfgStop}
@@ -32,9 +34,14 @@ use Rattle.ne_checker.specs.declared.stops.CheckStop.{CheckStop}
 use Rattle.ne_checker.specs.declared.stops.CheckStop.TheVariants as check_stop
 use Rattle.kept_strategies.specs.declared.kept_stop.KeptStop.{KeptStop}
 use Rattle.kept_strategies.specs.declared.kept_stop.KeptStop.TheVariants as kept_stop
-use Rattle.refusals.specs.declared.refusal.Site.TheVariants as site
+use Rattle.refusals.specs.declared.site.Site.TheVariants as site
 use Rattle.refusals.specs.declared.refusal.Refusal.{Refusal}
 use Rattle.refusals.specs.declared.refusal.Refusal.TheVariants as refusal
+
+-- the refusal that tells why the words give no settings
+abbrev pub settings_refusal : SettingsStop → Refusal
+settings_refusal (settings_stop.Usage usage) = refusal.Usage usage
+settings_refusal settings_stop.Memory = refusal.Memory
 
 -- the refusal that tells why a text is not read
 abbrev pub text_refusal : TextStop → Refusal

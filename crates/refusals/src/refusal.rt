@@ -3,8 +3,8 @@ use crate::lines::{
     absent_line, efg_line, forgets_line, limit_line, nfg_line, players_line, profile_line,
     range_line, subgame_line, sums_line, text_line, twice_line,
 };
+use crate::site::Site;
 use answers::Memory;
-use basis_enum::Basis;
 use efg_reader::EfgFault;
 use frac128::Unfit;
 use game_core::TooLarge;
@@ -15,120 +15,6 @@ use std::alloc::Global;
 use thiserror::Error;
 use words::Usage;
 use zero_sum_lp::NotConstant;
-
-/// Where a step of the arithmetic stands. Profiles, choices, nodes, players, sequences, rows, polytopes and
-/// levels are numbered from 0, variables and the steps of a path from 1. Sequence 0 is the empty one.
-#[derive(Debug, Drop)]
-pub enum Site {
-    /// In the payoff of a player at a profile of a reduced form.
-    Cell {
-        /// The profile.
-        profile: u32,
-        /// The player.
-        player: u32,
-    },
-    /// In the value of a node for a player under a choice of one action at each player's set.
-    Choice {
-        /// The choice.
-        choice: u32,
-        /// The node.
-        node: u32,
-        /// The player.
-        player: u32,
-    },
-    /// In a sequence form.
-    Place {
-        /// The node, or the profile.
-        place: u32,
-    },
-    /// In the sum of both players' payoffs at a leaf.
-    Sum {
-        /// The node, or the profile.
-        place: u32,
-    },
-    /// In what a cell of a sequence form pays player one above the least payoff.
-    Gain {
-        /// The sequence of player one.
-        row: u32,
-        /// The sequence of player two.
-        column: u32,
-    },
-    /// In what a cell of a sequence form costs a player below the player's greatest payoff.
-    Cost {
-        /// The player.
-        player: u32,
-        /// The sequence of player one.
-        row: u32,
-        /// The sequence of player two.
-        column: u32,
-    },
-    /// In the start of a path.
-    Start {
-        /// The row.
-        row: u32,
-    },
-    /// In a pivot of a path.
-    Step {
-        /// The pivot's number, from 1.
-        step: u64,
-        /// The entering variable.
-        entering: u32,
-    },
-    /// In a player's plan.
-    Plan {
-        /// The player.
-        player: u32,
-    },
-    /// In a player's behaviour at a set.
-    Behaviour {
-        /// The player.
-        player: u32,
-        /// The number that a file gives the set.
-        set: u64,
-    },
-    /// In the value of a game.
-    Value,
-    /// In what a subgame is worth to a player.
-    PlayerValue {
-        /// The player.
-        player: u32,
-    },
-    /// In the shift of a player's payoffs.
-    Shift {
-        /// The player.
-        player: u32,
-        /// The profile.
-        profile: u32,
-    },
-    /// In the start of the enumeration of a polytope.
-    PolytopeStart {
-        /// The polytope.
-        polytope: u32,
-        /// The row.
-        row: u32,
-    },
-    /// In a pivot from a level of the enumeration of a polytope.
-    Level {
-        /// The polytope.
-        polytope: u32,
-        /// The level.
-        level: u32,
-        /// The basis from which the pivot goes.
-        basis: Basis,
-        /// The entering variable.
-        entering: u32,
-    },
-    /// In the scaling of a vertex of a polytope.
-    Scaling {
-        /// The polytope.
-        polytope: u32,
-    },
-    /// In the profile on a line, or in its check.
-    Line {
-        /// The line, from 1.
-        line: u64,
-    },
-}
 
 /// Why a run is refused. The line on standard error is that of [`Refusal::line`]; the derived text is for
 /// debugging.
@@ -160,7 +46,10 @@ pub enum Refusal {
     Efg(EfgFault),
     /// The game has another number of players than two.
     #[error("not two players")]
-    NotTwoPlayers { count: u32 },
+    NotTwoPlayers {
+        /// How many players there are.
+        count: u32,
+    },
     /// A player forgets: the first one, at that player's first such set, which is numbered as a
     /// file numbers it. Nodes and players are numbered from 0.
     #[error("a player forgets")]
@@ -174,20 +63,41 @@ pub enum Refusal {
     TooLarge(TooLarge),
     /// A step of the arithmetic does not fit 128 bits.
     #[error("range")]
-    Range { site: Site, unfit: Unfit },
+    Range {
+        /// Where the step stands.
+        site: Site,
+        /// The step.
+        unfit: Unfit,
+    },
     /// A step of the arithmetic in the subgame that begins at a node does not fit 128 bits. Nodes
     /// count from 0; rows, columns and variables of the site are those of the cut at the node.
     #[error("range in a subgame")]
-    SubgameRange { node: u32, site: Site, unfit: Unfit },
+    SubgameRange {
+        /// The node.
+        node: u32,
+        /// Where the step stands.
+        site: Site,
+        /// The step.
+        unfit: Unfit,
+    },
     /// A line is not one of a profile of the game. Lines count from 1.
     #[error("no profile")]
-    BadLine { line: u64 },
+    BadLine {
+        /// The line.
+        line: u64,
+    },
     /// The game has no player with this number, from 1.
     #[error("no such player")]
-    NoSuchPlayer { number: u32 },
+    NoSuchPlayer {
+        /// The number.
+        number: u32,
+    },
     /// The row player, with this number from 1, is the column player too.
     #[error("one player twice")]
-    SamePlayer { number: u32 },
+    SamePlayer {
+        /// The number.
+        number: u32,
+    },
     /// Memory ran out.
     #[error("out of memory")]
     Memory,
@@ -283,6 +193,10 @@ impl Refusal {
     }
 
     /// The line on standard error, with its line feed.
+    ///
+    /// # Errors
+    ///
+    /// Memory ran out.
     pub fn line(&self, alloc: Global) -> Result<String, Memory>
         ensures { IfOk result (λ line. string_bytes line ≡ refusal_line self.now) }
     {

@@ -1,5 +1,6 @@
 // Refusals for the layers' reasons to stop.
-use crate::refusal::{Refusal, Site};
+use crate::refusal::Refusal;
+use crate::site::Site;
 use answers::Memory;
 use behaviour_profile::BehaviourStop;
 use convert_tables::ConvertStop;
@@ -14,10 +15,12 @@ use lemke_pivot::LcpStop;
 use lex_tableau::UnfitPivot;
 use ne_checker::CheckStop;
 use nfg_reader::NfgStop;
+use outside::{OpenFailed, ReadFailed, WriteFailed};
 use perfect_recall::RecallStop;
 use reduced_form::ReduceStop;
 use sequence_form::SeqStop;
 use std::alloc::AllocError;
+use words::SettingsStop;
 use zero_sum_lp::{LpStop, PlanStop};
 
 impl From<Memory> for Refusal {
@@ -39,6 +42,53 @@ impl From<AllocError> for Refusal {
 
     fn from(_error: AllocError) -> Refusal {
         Refusal::Memory
+    }
+}
+
+impl From<OpenFailed> for Refusal {
+    ghost use Rattle.std.specs.Prelude.{◌≡◌};
+    ghost use Rattle.refusals.specs.declared.refusal.Refusal.TheVariants as refusal;
+
+    ghost from_gives = { λ _ r. r ≡ refusal.OpenFault };
+
+    fn from(_failed: OpenFailed) -> Refusal {
+        Refusal::OpenFault
+    }
+}
+
+impl From<ReadFailed> for Refusal {
+    ghost use Rattle.std.specs.Prelude.{◌≡◌};
+    ghost use Rattle.refusals.specs.declared.refusal.Refusal.TheVariants as refusal;
+
+    ghost from_gives = { λ _ r. r ≡ refusal.ReadFault };
+
+    fn from(_failed: ReadFailed) -> Refusal {
+        Refusal::ReadFault
+    }
+}
+
+impl From<WriteFailed> for Refusal {
+    ghost use Rattle.std.specs.Prelude.{◌≡◌};
+    ghost use Rattle.refusals.specs.declared.refusal.Refusal.TheVariants as refusal;
+
+    ghost from_gives = { λ _ r. r ≡ refusal.WriteFault };
+
+    fn from(_failed: WriteFailed) -> Refusal {
+        Refusal::WriteFault
+    }
+}
+
+impl From<SettingsStop> for Refusal {
+    ghost use Rattle.std.specs.Prelude.{◌≡◌};
+    ghost use Rattle.refusals.specs.Told.{settings_refusal};
+
+    ghost from_gives = { λ stop r. r ≡ settings_refusal stop };
+
+    fn from(stop: SettingsStop) -> Refusal {
+        match stop {
+            SettingsStop::Usage(usage) => Refusal::Usage(usage),
+            SettingsStop::Memory => Refusal::Memory,
+        }
     }
 }
 

@@ -1,6 +1,4 @@
 -- The points of a game's two systems are those of its polytopes.
-use Rattle.std.proofs.Common.{ℕ}
-use Rattle.rational.specs.Rational.{ℚ}
 use Rattle.linear_systems.proofs.AgreementLemmas.{alike_sym}
 use Rattle.linear_systems.proofs.AlikeVertexLemmas.{point_alike}
 use Rattle.extreme_equilibria.specs.Laws.{SolutionsAreThePolytopes}

@@ -10,8 +10,8 @@
 //! as a matrix, `Sizes` the sizes of a form and of its problems, `PlanPairs` two plans;
 //! `sequence_forms` has the rows of plans.
 //! Private words: `specs::Gathered`, cells while they are summed up.
-//! Lemmas for callers: `proofs::GainLemmas` on gains and costs, `CellSumLemmas` and `OrderLemmas`
-//! on cells, `StepStageLemmas` on steps, `OneFormLemmas`, that there is at most one form over leaves.
+//! Lemmas for callers: `proofs::GainLemmas` on gains and costs, `CellSumLemmas` on cells,
+//! `StepStageLemmas` on steps, `OneFormLemmas`, that there is at most one form over leaves.
 //! A change here touches: `sequence_form`, `zero_sum_lp`, `lemke_pivot` and
 //! `behaviour_profile`.
 #![tactic(auto)]

@@ -9,6 +9,10 @@ use frac128::Frac;
 use std::alloc::Global;
 
 /// A matrix row by row: at each cell its number, and 0 elsewhere.
+///
+/// # Errors
+///
+/// Memory ran out.
 pub fn dense(
     alloc: Global,
     rows: usize,

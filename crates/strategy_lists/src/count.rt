@@ -85,6 +85,10 @@ fn count_apart(
 
 /// How many reduced strategies there are, but at most one more than `most`: counting stops there. `actions` has the
 /// number of actions of each of the player's own sets in order.
+///
+/// # Errors
+///
+/// Memory ran out.
 pub fn count_reduced(
     alloc: Global,
     decisions: &[Decision],

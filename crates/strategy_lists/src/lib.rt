@@ -11,9 +11,9 @@
 //! Private words: `specs::Ends` and `LeftOut`, how the code walks and counts; `Made`, the
 //! decisions while they are made.
 //! Lemmas for callers: `proofs::EndListLemmas` on the ends of a walk, `AscendingOrderLemmas` on
-//! lists in order, `ActionCountLemmas` and `OwnNumberLemmas` on own sets.
+//! lists in order, `ActionCountLemmas` on own sets.
 //! A change here touches: `reduced_form`, `enumpure_trees`, `sequence_form`, `behaviour_profile`,
-//! `ne_checker`.
+//! `verdicts`.
 #![tactic(auto)]
 
 mod count;

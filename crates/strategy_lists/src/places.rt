@@ -49,6 +49,10 @@ fn owners(alloc: Global, sets: &[InfoSet]) -> Result<Vec<Option<u32>>, Memory>
 }
 
 /// For each set its place among its owner's own sets, from 0; any number for a set of chance.
+///
+/// # Errors
+///
+/// Memory ran out.
 pub fn set_places(alloc: Global, tree: &Tree) -> Result<Vec<u32>, Memory>
     ensures { IfOk result (λ places. ArePlaces (game_of_tree tree.now) places.items) }
 {

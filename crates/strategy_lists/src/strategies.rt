@@ -53,6 +53,10 @@ impl<'a> Model for Decisions<'a> {
 
 impl<'a> Decisions<'a> {
     /// The decisions of each player. `places` has each set's place among its owner's own sets.
+    ///
+    /// # Errors
+    ///
+    /// Memory ran out.
     pub fn new(alloc: Global, tree: &'a Tree, places: &[u32]) -> Result<Decisions<'a>, Memory>
         requires places { ArePlaces (game_of_tree tree.now) places.now }
         ensures { IfOk result (λ decisions. decisions ≡ tree.now) }
@@ -77,6 +81,10 @@ impl<'a> Decisions<'a> {
     }
 
     /// How many reduced strategies a player has, but at most one more than `most`: counting stops there.
+    ///
+    /// # Errors
+    ///
+    /// Memory ran out.
     pub fn count(&self, alloc: Global, player: u32, most: usize) -> Result<usize, Memory>
         requires player { player < length self.now.players }
         requires most { most + 1 < 2 ^ 64 }
@@ -89,6 +97,10 @@ impl<'a> Decisions<'a> {
 
     /// The reduced strategies of a player in order, each as a list of the actions at the player's own sets,
     /// counted from 1, with 0 for none.
+    ///
+    /// # Errors
+    ///
+    /// Memory ran out.
     pub fn list(&self, alloc: Global, player: u32) -> Result<Vec<Vec<u32>>, Memory>
         requires player { player < length self.now.players }
         ensures { IfOk result

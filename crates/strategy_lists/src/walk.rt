@@ -132,6 +132,10 @@ pub(crate) fn count_ends(
 
 /// All reduced strategies in order, as choice lists. `actions` has the number of actions of each of the player's own
 /// sets in order.
+///
+/// # Errors
+///
+/// Memory ran out.
 pub fn list_reduced(
     alloc: Global,
     decisions: &[Decision],

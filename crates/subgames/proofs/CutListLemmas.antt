@@ -7,14 +7,14 @@ use Rattle.std.proofs.lemmas.Bool.{cases_eq, cases_lt}
 use Rattle.std.proofs.lemmas.List.{get_or-replicate, get_or-set_other, get_or-set_same, get_or_append_left, get_or_push, length-replicate, length-set, length_push, take_more}
 use Rattle.std.proofs.lemmas.List.Elements.{Contains-get_or}
 use Rattle.lists.specs.Listed.{AreListed}
-use Rattle.lists.proofs.ListedLemmas.{IsPassingBelow, listed_below-push, listed_below-skip}
+use Rattle.lists.proofs.ListedLemmas.{IsPassingBelow, listed-same, listed_below-push, listed_below-skip}
 use Rattle.game_theory.specs.Trees.{Tree, IsTree}
 use Rattle.game_core.specs.Tree.{GameTree}
 use Rattle.game_core.specs.TreeGame.{game_of_tree}
 use Rattle.subgames.specs.CutGames.{IsGivenEnd, IsInCut}
 use Rattle.lists.specs.Listed.{IsIndexOf}
-use Rattle.subgames.specs.CutParts.{AreHomesBefore, AreIndicesIn, GoesOnIn, with_node}
-use Rattle.subgames.specs.FoundSubgames.{AreSubgamesOf, FoundSubgames, ListCutsBefore}
+use Rattle.subgames.specs.CutParts.{AreHomesBefore, AreIndicesIn, GoesOnIn, IsAddedToCuts, with_node}
+use Rattle.subgames.specs.FoundSubgames.{AreCutLists, AreSubgamesOf, FoundSubgames}
 use Rattle.subgames.specs.Roots.{IsSubgameRoot}
 use Rattle.game_theory.proofs.SubtreeOrderLemmas.{above-ordered}
 use Rattle.subgames.proofs.CutMemberLemmas.{inner-once, inner-root}
@@ -73,7 +73,65 @@ homes-push t k home homes goes h = record {
   ];
 }
 
--- ---- the lists
+-- ---- one more node
+module _ (t : Tree) (w : IsTree t) (k : ℕ) (below : k < t.size) (cuts : List (List ℕ)) (many : length cuts ≡ t.size) (home : ℕ) (goes : GoesOnIn t home k) where
+  -- node k stands in the cut at a node
+  abbrev Stands : ℕ → Type 0
+  Stands n = IsSubgameRoot t n × IsInCut t n k
+
+  inside : home < length cuts
+  inside = omega (arith, cut-after t w home k goes.1, below, many)
+
+  here : get_or (with_node cuts home k) home [] ≡ get_or cuts home [] ++ k ∷ []
+  here = get_or-set_same cuts home (get_or cuts home [] ++ k ∷ []) [] inside
+
+  -- a node where no subgame begins below another stands in one cut
+  pub cuts-one : (0 < k → IsSubgameRoot t k → ⊥) → IsAddedToCuts t k cuts (with_node cuts home k)
+  cuts-one alone = record {
+    one_for_each = length-set cuts home (get_or cuts home [] ++ k ∷ []);
+    each = λ n few. elim (cases_eq n home) [
+      | inl same ↦ inl (subst (λ n. (get_or (with_node cuts home k) n [] ≡ get_or cuts n [] ++ k ∷ []) × Stands n) (sym same) (here, (goes.0, goes.1)))
+      | inr other ↦ inr (get_or-set_other cuts home n (get_or cuts home [] ++ k ∷ []) [] other, λ stands. elim (stands-there t w k below n home goes stands.0 stands.1) [ inl same ↦ other same | inr end ↦ alone end.0 end.1 ])
+    ];
+  }
+
+  -- where a subgame begins below another, the node stands in the other's cut too
+  pub cuts-two : (above : ℕ) → 0 < k → IsSubgameRoot t k → GoesOnIn t above (t.parent k) → IsAddedToCuts t k cuts (with_node (with_node cuts home k) above k)
+  cuts-two above later root up = record { one_for_each = length-set (with_node cuts home k) above _ ∙ length-set cuts home (get_or cuts home [] ++ k ∷ []); each = each }
+    where
+      own : home ≡ k
+      own = goes-once t home k k goes (goes-root t w k below root)
+
+      early : above < k
+      early = omega (arith, cut-after t w above (t.parent k) up.1, w.after_parent k later below)
+
+      first : get_or (with_node cuts home k) above [] ≡ get_or cuts above []
+      first = get_or-set_other cuts home above (get_or cuts home [] ++ k ∷ []) [] (λ e. absurd (omega (arith, e, own, early)))
+
+      there : get_or (with_node (with_node cuts home k) above k) above [] ≡ get_or cuts above [] ++ k ∷ []
+      there = get_or-set_same (with_node cuts home k) above (get_or (with_node cuts home k) above [] ++ k ∷ []) [] (omega (arith, early, below, many, length-set cuts home (get_or cuts home [] ++ k ∷ []))) ∙ ap (λ xs. xs ++ k ∷ []) first
+
+      away : (n : ℕ) → n ≢ above → get_or (with_node (with_node cuts home k) above k) n [] ≡ get_or (with_node cuts home k) n []
+      away n other = get_or-set_other (with_node cuts home k) above n (get_or (with_node cuts home k) above [] ++ k ∷ []) [] other
+
+      stands_above : Stands above
+      stands_above = (up.0, cut-down t w above k below early up.1 up.2)
+
+      each : (n : ℕ) → n < t.size → ((get_or (with_node (with_node cuts home k) above k) n [] ≡ get_or cuts n [] ++ k ∷ []) × Stands n) ⊎ ((get_or (with_node (with_node cuts home k) above k) n [] ≡ get_or cuts n []) × ¬ Stands n)
+      each n few = elim (cases_eq n above) [
+        | inl same ↦ inl (subst (λ n. (get_or (with_node (with_node cuts home k) above k) n [] ≡ get_or cuts n [] ++ k ∷ []) × Stands n) (sym same) (there, stands_above))
+        | inr other ↦ elim (cases_eq n home) [
+          | inl same ↦ inl (away n other ∙ subst (λ n. get_or (with_node cuts home k) n [] ≡ get_or cuts n [] ++ k ∷ []) (sym same) here, subst Stands (sym same) (goes.0, goes.1))
+          | inr apart ↦ inr (away n other ∙ get_or-set_other cuts home n (get_or cuts home [] ++ k ∷ []) [] apart, λ stands. elim (stands-there t w k below n home goes stands.0 stands.1) [ inl same ↦ apart same | inr end ↦ other (goes-once t n above (t.parent k) end.2 up) ])
+        ]
+      ]
+
+-- ---- the lists of all nodes before one
+-- for each node, where a subgame begins, the nodes before node k of the cut there, and none elsewhere
+pub record ListCutsBefore (t : Tree) (k : ℕ) (cuts : List (List ℕ)) : Type 0 where
+  pub one_for_each : length cuts ≡ t.size
+  pub are_nodes : (n : ℕ) → n < t.size → AreListed (IsPassingBelow (λ c. IsSubgameRoot t n × IsInCut t n c) k) (get_or cuts n [])
+
 -- no node at first
 pub cuts-start : (t : Tree) (cuts : List (List ℕ)) → cuts ≡ replicate t.size [] → ListCutsBefore t 0 cuts
 cuts-start t cuts are = record {
@@ -88,70 +146,26 @@ cuts-start t cuts are = record {
     none : (n : ℕ) → n < t.size → get_or cuts n [] ≡ []
     none n below = ap (λ xs. get_or xs n []) are ∙ get_or-replicate t.size n [] [] below
 
-module _ (t : Tree) (k : ℕ) (cuts : List (List ℕ)) (h : ListCutsBefore t k cuts) where
-  -- node k stands in the cut at a node
-  abbrev Stands : ℕ → Type 0
-  Stands n = IsSubgameRoot t n × IsInCut t n k
-
-  -- one more node in some lists
-  next : (new : List (List ℕ)) → length new ≡ length cuts → ((n : ℕ) → n < t.size → ((get_or new n [] ≡ get_or cuts n [] ++ k ∷ []) × Stands n) ⊎ ((get_or new n [] ≡ get_or cuts n []) × ¬ Stands n)) → ListCutsBefore t (k + 1) new
-  next new many each = record {
-    one_for_each = many ∙ h.one_for_each;
-    are_nodes = listed;
-  }
-    where
-      listed : (n : ℕ) → n < t.size → AreListed (IsPassingBelow (λ c. IsSubgameRoot t n × IsInCut t n c) (k + 1)) (get_or new n [])
-      listed n below =
-          let P : ℕ → Type 0 = λ c. IsSubgameRoot t n × IsInCut t n c in
-          elim (each n below) [
-            | inl in_list ↦ subst (AreListed (IsPassingBelow P (k + 1))) (sym in_list.0) (listed_below-push P k (get_or cuts n []) (h.are_nodes n below) in_list.1)
-            | inr out ↦ subst (AreListed (IsPassingBelow P (k + 1))) (sym out.0) (listed_below-skip P k (get_or cuts n []) (h.are_nodes n below) out.1)
-          ]
-
-  module _ (w : IsTree t) (below : k < t.size) (home : ℕ) (goes : GoesOnIn t home k) where
-    inside : home < length cuts
-    inside = omega (arith, cut-after t w home k goes.1, below, h.one_for_each)
-
-    here : get_or (with_node cuts home k) home [] ≡ get_or cuts home [] ++ k ∷ []
-    here = get_or-set_same cuts home (get_or cuts home [] ++ k ∷ []) [] inside
-
-    -- a node where no subgame begins below another stands in one cut
-    pub cuts-one : (0 < k → IsSubgameRoot t k → ⊥) → ListCutsBefore t (k + 1) (with_node cuts home k)
-    cuts-one alone = next (with_node cuts home k) (length-set cuts home (get_or cuts home [] ++ k ∷ [])) (λ n few. elim (cases_eq n home) [
-      | inl same ↦ inl (subst (λ n. (get_or (with_node cuts home k) n [] ≡ get_or cuts n [] ++ k ∷ []) × Stands n) (sym same) (here, (goes.0, goes.1)))
-      | inr other ↦ inr (get_or-set_other cuts home n (get_or cuts home [] ++ k ∷ []) [] other, λ stands. elim (stands-there t w k below n home goes stands.0 stands.1) [ inl same ↦ other same | inr end ↦ alone end.0 end.1 ])
-    ])
-
-    -- where a subgame begins below another, the node stands in the other's cut too
-    pub cuts-two : (above : ℕ) → 0 < k → IsSubgameRoot t k → GoesOnIn t above (t.parent k) → ListCutsBefore t (k + 1) (with_node (with_node cuts home k) above k)
-    cuts-two above later root up = next (with_node (with_node cuts home k) above k) (length-set (with_node cuts home k) above _ ∙ length-set cuts home (get_or cuts home [] ++ k ∷ [])) each
-      where
-        own : home ≡ k
-        own = goes-once t home k k goes (goes-root t w k below root)
-
-        early : above < k
-        early = omega (arith, cut-after t w above (t.parent k) up.1, w.after_parent k later below)
-
-        first : get_or (with_node cuts home k) above [] ≡ get_or cuts above []
-        first = get_or-set_other cuts home above (get_or cuts home [] ++ k ∷ []) [] (λ e. absurd (omega (arith, e, own, early)))
-
-        there : get_or (with_node (with_node cuts home k) above k) above [] ≡ get_or cuts above [] ++ k ∷ []
-        there = get_or-set_same (with_node cuts home k) above (get_or (with_node cuts home k) above [] ++ k ∷ []) [] (omega (arith, early, below, h.one_for_each, length-set cuts home (get_or cuts home [] ++ k ∷ []))) ∙ ap (λ xs. xs ++ k ∷ []) first
-
-        away : (n : ℕ) → n ≢ above → get_or (with_node (with_node cuts home k) above k) n [] ≡ get_or (with_node cuts home k) n []
-        away n other = get_or-set_other (with_node cuts home k) above n (get_or (with_node cuts home k) above [] ++ k ∷ []) [] other
-
-        stands_above : Stands above
-        stands_above = (up.0, cut-down t w above k below early up.1 up.2)
-
-        each : (n : ℕ) → n < t.size → ((get_or (with_node (with_node cuts home k) above k) n [] ≡ get_or cuts n [] ++ k ∷ []) × Stands n) ⊎ ((get_or (with_node (with_node cuts home k) above k) n [] ≡ get_or cuts n []) × ¬ Stands n)
-        each n few = elim (cases_eq n above) [
-          | inl same ↦ inl (subst (λ n. (get_or (with_node (with_node cuts home k) above k) n [] ≡ get_or cuts n [] ++ k ∷ []) × Stands n) (sym same) (there, stands_above))
-          | inr other ↦ elim (cases_eq n home) [
-            | inl same ↦ inl (away n other ∙ subst (λ n. get_or (with_node cuts home k) n [] ≡ get_or cuts n [] ++ k ∷ []) (sym same) here, subst Stands (sym same) (goes.0, goes.1))
-            | inr apart ↦ inr (away n other ∙ get_or-set_other cuts home n (get_or cuts home [] ++ k ∷ []) [] apart, λ stands. elim (stands-there t w k below n home goes stands.0 stands.1) [ inl same ↦ apart same | inr end ↦ other (goes-once t n above (t.parent k) end.2 up) ])
-          ]
+-- one more node
+pub cuts-next : (t : Tree) (k : ℕ) (old new : List (List ℕ)) → IsAddedToCuts t k old new → ListCutsBefore t k old → ListCutsBefore t (k + 1) new
+cuts-next t k old new added h = record { one_for_each = added.one_for_each ∙ h.one_for_each; are_nodes = listed }
+  where
+    listed : (n : ℕ) → n < t.size → AreListed (IsPassingBelow (λ c. IsSubgameRoot t n × IsInCut t n c) (k + 1)) (get_or new n [])
+    listed n below =
+        let P : ℕ → Type 0 = λ c. IsSubgameRoot t n × IsInCut t n c in
+        elim (added.each n below) [
+          | inl in_list ↦ subst (AreListed (IsPassingBelow P (k + 1))) (sym in_list.0) (listed_below-push P k (get_or old n []) (h.are_nodes n below) in_list.1)
+          | inr out ↦ subst (AreListed (IsPassingBelow P (k + 1))) (sym out.0) (listed_below-skip P k (get_or old n []) (h.are_nodes n below) out.1)
         ]
+
+-- all nodes at last
+pub cuts-all : (t : Tree) (cuts : List (List ℕ)) → ListCutsBefore t t.size cuts → AreCutLists t cuts
+cuts-all t cuts h = record {
+  one_for_each = h.one_for_each;
+  are_nodes = λ n below.
+      let P : ℕ → Type 0 = λ c. IsSubgameRoot t n × IsInCut t n c in
+      listed-same (IsPassingBelow P t.size) P (get_or cuts n []) (h.are_nodes n below) (λ c passes. passes.1) (λ c stands. (stands.1.0, stands));
+}
 
 -- ---- indices
 -- numbers below a bound have indices
@@ -186,26 +200,21 @@ few-below numbers bound rises within = elim (cases_lt bound (length numbers)) [
         let step : get_or numbers j 0 < get_or numbers (suc j) 0 = subst (λ i. get_or numbers j 0 < get_or numbers i 0) (add-one j) (rises j (omega (arith, below))) in
         omega (arith, step, at-least j (omega (arith, below)))
 
--- ---- all nodes at last
-module _ (t : Tree) (n : ℕ) (cuts : List (List ℕ)) (h : ListCutsBefore t t.size cuts) (below : n < t.size) where
+-- ---- the cut where a subgame begins
+module _ (t : Tree) (n : ℕ) (cuts : List (List ℕ)) (h : AreCutLists t cuts) (below : n < t.size) where
   -- a list's nodes are nodes of the tree
   pub list-within : All (λ k. k < t.size) (get_or cuts n [])
-  list-within j d inside = ((h.are_nodes n below).sound (get_or (get_or cuts n []) j d) (Contains-get_or (get_or cuts n []) j d inside)).0
+  list-within j d inside = ((h.are_nodes n below).sound (get_or (get_or cuts n []) j d) (Contains-get_or (get_or cuts n []) j d inside)).1.0
 
   -- the list where a subgame begins has the nodes of the cut there
   pub list-cut : IsSubgameRoot t n → (indices : List (Option ℕ)) → AreIndicesIn (get_or cuts n []) t.size indices → AreCutNodes t n (get_or cuts n []) indices
-  list-cut root indices are = record {
-    are_nodes = record {
-      ascending = list.ascending;
-      sound = λ k found. (list.sound k found).1.1;
-      complete = λ k cut. list.complete k (cut.0, (root, cut));
-    };
-    no_more = few-below (get_or cuts n []) t.size list.ascending (λ k found. (list.sound k found).0);
-    indices_are = are;
-  }
-    where
-      list : AreListed (IsPassingBelow (λ c. IsSubgameRoot t n × IsInCut t n c) t.size) (get_or cuts n [])
-      list = h.are_nodes n below
+  list-cut root indices are =
+      let list = h.are_nodes n below in
+      record {
+        are_nodes = listed-same (λ c. IsSubgameRoot t n × IsInCut t n c) (IsInCut t n) (get_or cuts n []) list (λ k stands. stands.1) (λ k cut. (root, cut));
+        no_more = few-below (get_or cuts n []) t.size list.ascending (λ k found. (list.sound k found).1.0);
+        indices_are = are;
+      }
 
 -- so what was found has the nodes of each cut
 pub found-nodes : (t : GameTree) (n : ℕ) (found : FoundSubgames) (nodes : List ℕ) → AreSubgamesOf t found → n < length t.nodes → IsSubgameRoot (game_of_tree t) n → nodes ≡ get_or found.cuts n []

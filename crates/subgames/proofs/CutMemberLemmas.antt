@@ -1,4 +1,4 @@
--- Each player's set that a node has stands in one cut.
+-- Each set that a node has stands in some cut, and a player's set in one.
 use Rattle.std.proofs.Common.{ℕ, ◌<◌, ◌≡◌, inl, inr, refl, sym, ◌∙◌, subst, arith}
 use Rattle.std.proofs.lemmas.Bool.{cases_eq}
 use Rattle.game_theory.specs.OwnSets.{Chooses}
@@ -9,6 +9,7 @@ use Rattle.subgames.specs.CutGames.{IsGivenEnd, IsInCut}
 use Rattle.subgames.specs.CutLaws.{SetsStandInOneCut}
 use Rattle.subgames.specs.Roots.{IsSubgameRoot}
 use Rattle.subgames.proofs.CutWalkLemmas.{cut-after, cut-down, cut-root}
+use Rattle.subgames.proofs.RootTestLemmas.{root_or_not}
 
 -- ---- in some cut
 -- node k stands in the cut at node n, and is no given end there
@@ -20,14 +21,17 @@ module _ (t : Tree) (w : IsTree t) where
   pub inner-root : (n : ℕ) → n < t.size → IsInnerNode t n n
   inner-root n below = (cut-root t w n below, λ end. end.1 refl)
 
-  -- each node does so in the cut at some node where a subgame begins
-  pub inner-somewhere : (k : ℕ) → k < t.size → ¬ ((n : ℕ) → n < t.size → IsSubgameRoot t n → ¬ IsInnerNode t n k)
-  inner-somewhere = along_paths t (λ k. ¬ ((n : ℕ) → n < t.size → IsSubgameRoot t n → ¬ IsInnerNode t n k)) w
-      (λ none. none 0 w.some_node (inl refl) (inner-root 0 w.some_node))
-      (λ k later below up none. up (λ n inside root inner.
-      let before = w.after_parent k later below in
-      let after = cut-after t w n (t.parent k) inner.0 in
-      none n inside root (cut-down t w n k below (omega (arith, before, after)) inner.0 inner.1, λ end. none k below end.0 (inner-root k below))))
+  -- each node does so in the cut at some node where a subgame begins: its own, or its parent's
+  pub inner-somewhere : (k : ℕ) → k < t.size → (n : ℕ) × (n < t.size) × IsSubgameRoot t n × IsInnerNode t n k
+  inner-somewhere = along_paths t (λ k. (n : ℕ) × (n < t.size) × IsSubgameRoot t n × IsInnerNode t n k) w
+      (0, w.some_node, inl refl, inner-root 0 w.some_node)
+      (λ k later below up. elim (root_or_not t w k below) [
+        | inl root ↦ (k, below, root, inner-root k below)
+        | inr other ↦
+            let before = w.after_parent k later below in
+            let after = cut-after t w up.0 (t.parent k) up.3.0 in
+            (up.0, up.1, up.2, (cut-down t w up.0 k below (omega (arith, before, after)) up.3.0 up.3.1, λ end. other end.0))
+      ])
 
 -- ---- in no other
 module _ (t : Tree) (w : IsTree t) where
@@ -43,10 +47,10 @@ inner-once t n m k root inner from to = elim (inner.0.2 m root from to) [
   | inr own ↦ elim (cases_eq m n) [ inl same ↦ same | inr other ↦ absurd (inner.1 (subst (IsSubgameRoot t) own root, λ e. other (own ∙ e))) ]
 ]
 
--- so each player's set stands in one cut
+-- so each set stands in some cut, and each player's set in one
 pub sets_stand_in_one_cut : SetsStandInOneCut
 sets_stand_in_one_cut = record {
-  some = λ t k s w below at none. inner-somewhere t w k below (λ n inside root inner. none n inside root (k, inner.0, inner.1, at));
+  some = λ t k s w below at. let home = inner-somewhere t w k below in (home.0, home.1, home.2, (k, home.3.0, home.3.1, at));
   one = λ t n m s i w root_n root_m own here there.
       let c = here.0 in
       let d = there.0 in

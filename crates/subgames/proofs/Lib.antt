@@ -18,4 +18,5 @@ pub mod CutWalkLemmas
 pub mod CutWorthLemmas
 pub mod MemberListLemmas
 pub mod RootLemmas
+pub mod RootTestLemmas
 pub mod SpanLemmas

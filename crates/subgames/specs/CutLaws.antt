@@ -52,10 +52,10 @@ abbrev pub StandsInCut : Tree → ℕ → ℕ → Type 0
 StandsInCut t n s =
     (k : ℕ) × IsInCut t n k × (¬ IsGivenEnd t n k) × (t.set k ≡ Some s)
 
--- each player's set that a node has stands in the cut at some node where a subgame begins, and in no
--- other
+-- each set that a node has stands in the cut at some node where a subgame begins, and a player's set
+-- stands in the cut at one such node only
 pub record SetsStandInOneCut : Type 0 where
   pub some : (t : Tree) (k s : ℕ) → IsTree t → k < t.size → t.set k ≡ Some s
-      → ¬ ((n : ℕ) → n < t.size → IsSubgameRoot t n → ¬ StandsInCut t n s)
+      → (n : ℕ) × (n < t.size) × IsSubgameRoot t n × StandsInCut t n s
   pub one : (t : Tree) (n m s i : ℕ) → IsTree t → IsSubgameRoot t n → IsSubgameRoot t m
       → t.owner s ≡ Some i → StandsInCut t n s → StandsInCut t m s → n ≡ m

@@ -41,6 +41,15 @@ pub record AreHomesBefore (t : Tree) (k : ℕ) (homes : List ℕ) : Type 0 where
 abbrev pub with_node : List (List ℕ) → ℕ → ℕ → List (List ℕ)
 with_node lists n k = slice_set lists n (slice_index_or lists n [] ++ k ∷ [])
 
+-- node k is added to the lists of the cuts in which it stands, and to no other
+pub record IsAddedToCuts (t : Tree) (k : ℕ) (old new : List (List ℕ)) : Type 0 where
+  pub one_for_each : length new ≡ length old
+  pub each : (n : ℕ) → n < t.size
+      → ((slice_index_or new n [] ≡ slice_index_or old n [] ++ k ∷ [])
+      × (IsSubgameRoot t n × IsInCut t n k))
+      ⊎ ((slice_index_or new n [] ≡ slice_index_or old n [])
+      × ¬ (IsSubgameRoot t n × IsInCut t n k))
+
 -- Sets of the tree that are named in turn, each by its number among those of the cut: these are
 -- numbered by first use, and each of them stands there once.
 pub record AreSetNames (keys names : List (Option ℕ)) (sets : List ℕ) : Type 0 where

@@ -17,11 +17,11 @@ pub record AreRootMarks (t : Tree) (begins : List Bool) : Type 0 where
   pub one_for_each : length begins ≡ t.size
   pub are_all : (k : ℕ) → k < t.size → IsMarked begins k ↔ IsSubgameRoot t k
 
--- for each node, where a subgame begins, the nodes before node k of the cut there, and none elsewhere
-pub record ListCutsBefore (t : Tree) (k : ℕ) (cuts : List (List ℕ)) : Type 0 where
+-- for each node, where a subgame begins, the nodes of the cut there, and none elsewhere
+pub record AreCutLists (t : Tree) (cuts : List (List ℕ)) : Type 0 where
   pub one_for_each : length cuts ≡ t.size
   pub are_nodes : (n : ℕ) → n < t.size
-      → AreListed (λ c. (c < k) × (IsSubgameRoot t n × IsInCut t n c)) (slice_index_or cuts n [])
+      → AreListed (λ c. IsSubgameRoot t n × IsInCut t n c) (slice_index_or cuts n [])
 
 -- marks on nodes, and the nodes of cuts
 pub record FoundSubgames : Type 0 where
@@ -38,4 +38,4 @@ code_of_found =
 -- what was found is so of this tree
 pub record AreSubgamesOf (t : GameTree) (found : FoundSubgames) : Type 0 where
   pub marks : AreRootMarks (game_of_tree t) found.begins
-  pub cuts : ListCutsBefore (game_of_tree t) (length t.nodes) found.cuts
+  pub cuts : AreCutLists (game_of_tree t) found.cuts

@@ -1,8 +1,8 @@
 // The nodes of the cuts of a tree.
-ghost use Rattle.std.specs.Prelude.{◌≡◌, ◌<◌, ◌+◌, IfOk, OnOk, length, map};
+ghost use Rattle.std.specs.Prelude.{◌≡◌, ◌<◌, IfOk, OnOk, length, map};
 ghost use Rattle.game_core.specs.TreeGame.{game_of_tree};
-ghost use Rattle.subgames.specs.CutParts.{AreHomesBefore, GoesOnIn, cut_set, is_given_end, with_node};
-ghost use Rattle.subgames.specs.FoundSubgames.{AreRootMarks, ListCutsBefore};
+ghost use Rattle.subgames.specs.CutParts.{AreHomesBefore, GoesOnIn, IsAddedToCuts, cut_set, is_given_end, with_node};
+ghost use Rattle.subgames.specs.FoundSubgames.{AreCutLists, AreRootMarks};
 
 use crate::members::empty_lists;
 use answers::Memory;
@@ -84,10 +84,9 @@ fn list_node(
     requires node { node < length tree.now.nodes }
     requires begins { AreRootMarks (game_of_tree tree.now) begins.now }
     requires homes { AreHomesBefore (game_of_tree tree.now) (length tree.now.nodes) homes.now }
-    requires cuts { ListCutsBefore (game_of_tree tree.now) node
-        (map (λ v. v.items) cuts.old.items) }
-    ensures { OnOk result (ListCutsBefore (game_of_tree tree.now) (node + 1)
-        (map (λ v. v.items) cuts.new.items)) }
+    requires cuts { length cuts.old.items ≡ length tree.now.nodes }
+    ensures { OnOk result (IsAddedToCuts (game_of_tree tree.now) node
+        (map (λ v. v.items) cuts.old.items) (map (λ v. v.items) cuts.new.items)) }
 {
     tree.stands_for_game_tree();
     list_in(cuts, homes[node], node as u32)?;
@@ -106,8 +105,8 @@ pub(crate) fn cut_lists(
     begins: &[bool],
 ) -> Result<Vec<Vec<u32>>, Memory>
     requires begins { AreRootMarks (game_of_tree tree.now) begins.now }
-    ensures { IfOk result (λ cuts. ListCutsBefore (game_of_tree tree.now) (length tree.now.nodes)
-        (map (λ v. v.items) cuts.items)) }
+    ensures { IfOk result
+        (λ cuts. AreCutLists (game_of_tree tree.now) (map (λ v. v.items) cuts.items)) }
 {
     let homes = homes(alloc, tree, begins)?;
     let mut cuts = empty_lists(alloc, tree.nodes().len())?;

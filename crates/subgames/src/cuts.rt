@@ -86,6 +86,10 @@ impl Subgames {
     ghost use Rattle.subgames.specs.Roots.{IsSubgameRoot};
 
     /// Finds the subgames of a tree.
+    ///
+    /// # Errors
+    ///
+    /// Memory ran out.
     pub fn find(alloc: Global, tree: &Tree) -> Result<Subgames, Memory>
         ensures { IfOk result (AreSubgamesOf tree.now) }
     {

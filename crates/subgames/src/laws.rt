@@ -17,8 +17,8 @@ pub fn cut_equilibria_are_perfect()
     ensures { CutEquilibriaArePerfect }
 {}
 
-/// Each player's set that a node has stands in the cut at some node where a subgame begins, and in no
-/// other.
+/// Each set that a node has stands in the cut at some node where a subgame begins, and a player's set
+/// stands in the cut at one such node only.
 pub fn sets_stand_in_one_cut()
     ensures { SetsStandInOneCut }
 {}

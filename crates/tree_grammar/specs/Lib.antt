@@ -1,3 +1,4 @@
+pub mod Texts
 pub mod TreeFile
 pub mod TreeParsing
 pub mod TreePieces

@@ -17,8 +17,11 @@ pub struct Front {
     pub players: Vec<Name>,
 }
 
-/// The title and the players at the front of a file, and the tokens after them and the comment that may come. An error
-/// has the fault's kind and how many tokens are left there, or is want of memory.
+/// The title and the players at the front of a file, and the tokens after them and the comment that may come.
+///
+/// # Errors
+///
+/// The fault's kind and how many tokens are left there; or memory ran out.
 #[tactic(auto, using(file_parts::proofs::ParseLemmas::refused_first), unfolding(crate::specs::TreeParsing::parse_front))]
 pub fn read_front(
     alloc: Global,

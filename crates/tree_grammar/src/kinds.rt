@@ -1,5 +1,6 @@
 // The kinds of faults in a file of a tree.
 use frac128::{Frac, Unfit};
+use std::fmt;
 
 /// The kind of a fault in a file of a tree.
 #[derive(Clone, Copy, Debug, PartialEq, Eq)]
@@ -35,4 +36,30 @@ pub enum EfgKind {
     Unfinished,
     /// A token after the end.
     Trailing,
+}
+
+impl fmt::Display for EfgKind {
+    ghost use Rattle.std.specs.Prelude.{Some};
+    ghost use Rattle.tree_grammar.specs.Texts.{efg_kind_text};
+
+    ghost output = { λ kind. Some (efg_kind_text kind) };
+
+    fn fmt<W: fmt::Write>(&self, f: &mut fmt::Formatter<W>) -> fmt::Result {
+        match self {
+            EfgKind::Header => f.write_str("header"),
+            EfgKind::Players => f.write_str("players"),
+            EfgKind::Node => f.write_str("node"),
+            EfgKind::UnknownPlayer => f.write_str("unknown player"),
+            EfgKind::SetMismatch => f.write_str("set mismatch"),
+            EfgKind::Probability { set, sum } => {
+                write!(f, "probability of set {set} sums to {sum}")
+            }
+            EfgKind::ProbabilityRange { set, unfit } => {
+                write!(f, "probability of set {set} out of range: {unfit}")
+            }
+            EfgKind::OutcomeMismatch => f.write_str("outcome mismatch"),
+            EfgKind::Unfinished => f.write_str("unfinished"),
+            EfgKind::Trailing => f.write_str("trailing"),
+        }
+    }
 }

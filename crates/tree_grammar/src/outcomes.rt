@@ -74,6 +74,10 @@ impl Outcomes {
     }
 
     /// The outcomes of the whole tree; one without a name gets the empty one. The error is want of memory.
+    ///
+    /// # Errors
+    ///
+    /// Memory ran out.
     pub fn finish(self, alloc: Global) -> Result<Vec<Outcome>, AllocError>
         ensures { IfOk result (λ v. v.items ≡ map finished_outcome self) }
     {
@@ -268,7 +272,11 @@ fn read_named<'a>(
 
 /// The outcome that comes at a node, in a game of so many players: the outcomes with that use, the outcome's number
 /// among them from 0, or nothing where the node has none, and the tokens after it. The outcome is new where none has
-/// the number that comes. An error has the fault's kind and how many tokens are left there, or is want of memory.
+/// the number that comes.
+///
+/// # Errors
+///
+/// The fault's kind and how many tokens are left there; or memory ran out.
 #[tactic(auto, using(crate::proofs::LabelLemmas::outcome_steps))]
 pub fn read_outcome<'a>(
     alloc: Global,

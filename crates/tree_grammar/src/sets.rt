@@ -97,6 +97,10 @@ impl Sets {
     }
 
     /// The sets of the whole tree; one without a name gets the empty one. The error is want of memory.
+    ///
+    /// # Errors
+    ///
+    /// Memory ran out.
     pub fn finish(self, alloc: Global) -> Result<Vec<InfoSet>, AllocError>
         ensures { IfOk result (λ v. v.items ≡ map finished_set self) }
     {
@@ -207,8 +211,11 @@ fn placed(known: &mut IndexSet<SetKey>, key: SetKey) -> Result<(usize, bool), Al
 
 /// The set that comes at the node with this number from 0, of this owner, a player from 0 or nothing for chance: the
 /// sets with that use, the set's number among them from 0, and the tokens after it. The set is new where none of that
-/// owner has the number that comes. An error has the fault's kind and how many tokens are left there, or is want of
-/// memory.
+/// owner has the number that comes.
+///
+/// # Errors
+///
+/// The fault's kind and how many tokens are left there; or memory ran out.
 pub fn read_set<'a>(
     alloc: Global,
     sets: Sets,

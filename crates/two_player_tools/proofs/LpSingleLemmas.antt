@@ -22,7 +22,7 @@ use Rattle.two_player_tools.specs.Lp.{Solution, first_price, lp, prices_in, pric
 use Rattle.refusals.specs.Told.{pivot_refusal, plan_refusal, program_refusal}
 use Rattle.two_player_tools.specs.TwoPlayers.{form_in, two_players}
 use Rattle.refusals.specs.declared.refusal.Refusal.TheVariants as refusal
-use Rattle.refusals.specs.declared.refusal.Site.TheVariants as site
+use Rattle.refusals.specs.declared.site.Site.TheVariants as site
 use Rattle.two_player_tools.proofs.FormSingleLemmas.{RecallsAreSingle, entries_in-single, form_in-single, two_players-single}
 use Rattle.two_player_tools.proofs.KeptPropertyLemmas.{TreesAreGames, form_in-valid, optimum-first, optimum-second}
 

@@ -45,7 +45,8 @@ set-in_cut t n worth nodes sets c s g stands =
 pub set-in_some_cut : (t : GameTree) (s : ℕ) → SetsStandInOneCut → TreesAreGames → IsGameTree t → s < length t.sets → ((n : ℕ) → n < length t.nodes → IsSubgameRoot (game_of_tree t) n → ¬ StandsInCut (game_of_tree t) n s) → ⊥
 set-in_some_cut t s law laws w below none =
     let used = set-used t w s below in
-    law.some (game_of_tree t) used.0 s (laws.game_tree t w) used.1 used.2 none
+    let home = law.some (game_of_tree t) used.0 s (laws.game_tree t w) used.1 used.2 in
+    none home.0 home.1 home.2 home.3
 
 -- ---- solved cuts
 module _ (method : Method) (t : GameTree) (laws : TreesAreGames) (recalls : RecallsAreSingle) (w : IsGameTree t) (worth other : ℕ → ℕ → ℚ) (n : ℕ) (inside : n < length t.nodes) (agree : AgreeAtEnds t n worth other) where

@@ -21,7 +21,7 @@ use Rattle.refusals.specs.Told.{pivot_refusal, program_refusal, plan_refusal}
 use Rattle.two_player_tools.specs.TwoPlayers.{two_players, form_in}
 use Rattle.refusals.specs.declared.refusal.Refusal.{Refusal}
 use Rattle.refusals.specs.declared.refusal.Refusal.TheVariants as refusal
-use Rattle.refusals.specs.declared.refusal.Site.TheVariants as site
+use Rattle.refusals.specs.declared.site.Site.TheVariants as site
 
 -- ---- the solution
 -- the weights of both players' sequences, their prices, of which the first is that of the whole game

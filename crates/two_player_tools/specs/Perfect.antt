@@ -25,7 +25,7 @@ use Rattle.sequence_data.specs.PlanPairs.{PlanPair}
 use Rattle.refusals.specs.Told.{behaviour_refusal, recall_refusal}
 use Rattle.refusals.specs.declared.refusal.Refusal.{Refusal}
 use Rattle.refusals.specs.declared.refusal.Refusal.TheVariants as refusal
-use Rattle.refusals.specs.declared.refusal.Site.TheVariants as site
+use Rattle.refusals.specs.declared.site.Site.TheVariants as site
 use Rattle.two_player_tools.specs.Lcp.{equilibrium_in, lcp}
 use Rattle.two_player_tools.specs.Lp.{lp, solution_in}
 use Rattle.two_player_tools.specs.TwoPlayers.{form_of_tree, rows_by, two_players}

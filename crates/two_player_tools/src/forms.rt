@@ -44,6 +44,10 @@ pub(crate) fn two_players_of(count: u32) -> Result<(), Refusal>
 }
 
 /// Refuses a game that does not have two players. Takes no memory.
+///
+/// # Errors
+///
+/// `NotTwoPlayers`, with their number, exactly where there are not two.
 pub fn two_players(game: &Game) -> Result<(), Refusal>
     ensures { two_players game.now result }
 {

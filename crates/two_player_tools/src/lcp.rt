@@ -43,6 +43,10 @@ fn equilibrium_text(alloc: Global, strategic: bool, game: &Game) -> Result<Vec<u
 
 /// The text of `lcp`: the line of an equilibrium of a game; of a tree, where `perfect` is set, one that
 /// is found subgame by subgame.
+///
+/// # Errors
+///
+/// The first refusal in the order of the stages of `lcp`; `Memory` where memory ran out.
 pub fn lcp_text(
     alloc: Global,
     strategic: bool,

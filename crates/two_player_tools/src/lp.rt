@@ -94,6 +94,10 @@ fn equilibrium_text(
 
 /// The text of `lp`: the line of an equilibrium of a game, with its value and prices where they are
 /// asked for; of a tree, where `perfect` is set, the line of one that is found subgame by subgame.
+///
+/// # Errors
+///
+/// The first refusal in the order of the stages of `lp`; `Memory` where memory ran out.
 pub fn lp_text(
     alloc: Global,
     strategic: bool,

@@ -1,16 +1,19 @@
 -- The probabilities of the others, multiplied player by player.
-use Rattle.std.proofs.Common.{ℕ, suc, ◌+◌, ◌/◌, ◌%◌, ◌<◌, ◌≡◌, ◌≢◌, Bool, true, false, Decides, List, [], ◌∷◌, ◌++◌, Ok, Err, Result, length, map, get_or, drop, refl, sym, ap, ap₂, ◌∙◌, subst, drop-cons, add-one, arith}
-use Rattle.std.specs.Prelude.{◌==◌, not, if◌then◌else◌}
+use Rattle.std.proofs.Common.{ℕ, suc, ◌+◌, ◌/◌, ◌%◌, ◌<◌, ◌≡◌, ◌≢◌, Bool, true, false, Decides, List, [], ◌∷◌, ◌++◌, All, Ok, Err, Result, length, map, get_or, drop, refl, sym, ap, ap₂, ◌∙◌, subst, drop-cons, add-one, arith}
+use Rattle.std.specs.Prelude.{◌==◌, nat_abs, not, if◌then◌else◌}
 use Rattle.std.specs.List.{filter, range_with_len}
 use Rattle.std.proofs.lemmas.Bool.Decides.{Decides-eqb}
-use Rattle.rational.specs.Rational.{ℚ, ◌*ℚ◌, one_ℚ}
+use Rattle.std.proofs.lemmas.List.Elements.{All-nil, All-cons}
+use Rattle.rational.specs.Rational.{ℚ, ◌*ℚ◌, zero_ℚ, one_ℚ}
 use Rattle.rational.proofs.RationalRing.{*ℚ_assoc, *ℚ-one}
-use Rattle.rational.proofs.Rules.{one-*ℚ}
-use Rattle.frac128.specs.Steps.{MulFits, step_of, Step, IsFirstUnfit, StepsGive}
+use Rattle.rational.proofs.Rules.{zero-*ℚ, one-*ℚ}
+use Rattle.frac128.specs.Fraction.{Fits}
+use Rattle.frac128.specs.Steps.{MulFits, step_of, Step, StepFits, IsFirstUnfit, StepsGive}
 use Rattle.frac128.specs.declared.steps.Op.TheVariants.{Mul}
 use Rattle.frac128.specs.declared.steps.Unfit.{Unfit}
 use Rattle.game_theory.specs.Profiles.{profile_at}
 use Rattle.game_theory.specs.Mixed.{Mixed, later, probability}
+use Rattle.frac128.proofs.PartLemmas.{zero-num, zero-den}
 use Rattle.frac128.proofs.StepRunLemmas.{first_unfit-here, one-fits, following-gives}
 use Rattle.best_replies.specs.Strategies.{own_as_one, weight}
 use Rattle.verdicts.specs.TableChecks.{others_probabilities, product_steps}
@@ -19,6 +22,14 @@ use Rattle.verdicts.specs.TableChecks.{others_probabilities, product_steps}
 abbrev pub others_from : Mixed → ℕ → ℕ → List ℕ → List ℚ
 others_from m i j [] = []
 others_from m i j (s ∷ strategies) = (if j == i then [] else m j s ∷ []) ++ others_from m i (suc j) strategies
+
+-- a product that is 0 stays 0, and each factor fits
+zero-stays : (qs : List ℚ) → All StepFits (product_steps zero_ℚ qs)
+zero-stays [] = All-nil StepFits
+zero-stays (q ∷ qs) =
+    All-cons StepFits (step_of Mul zero_ℚ q) (product_steps (zero_ℚ *ℚ q) qs)
+    (subst Fits (sym (zero-*ℚ q)) (record { num = omega (arith, ap nat_abs zero-num); den = omega (arith, zero-den) }))
+    (subst (λ p. All StepFits (product_steps p qs)) (sym (zero-*ℚ q)) (zero-stays qs))
 
 -- these are those of the numbers from j on, where they read the same strategies
 others-listed : (m : Mixed) (i j : ℕ) (strategies : List ℕ) (at : ℕ → ℕ) → ((k : ℕ) → k < length strategies → at (j + k) ≡ get_or strategies k 0)
@@ -60,6 +71,10 @@ module _ (m : Mixed) (i : ℕ) where
   -- after the last player there are none
   pub none-left : (j : ℕ) (product : ℚ) → GiveFrom j [] product (Ok product)
   none-left j product = (sym (*ℚ-one product), λ k d l. absurd (omega (arith, l)))
+
+  -- a product that is 0 is what they all give
+  pub zero-left : (j : ℕ) (strategies : List ℕ) (product : ℚ) → product ≡ zero_ℚ → GiveFrom j strategies product (Ok product)
+  zero-left j strategies product e = subst (λ x. GiveFrom j strategies x (Ok x)) (sym e) (sym (zero-*ℚ _), zero-stays (others_from m i j strategies))
 
   module _ (j s : ℕ) (strategies : List ℕ) where
     shifted : later (from (own_as_one m i) j) ≡ from (own_as_one m i) (suc j)

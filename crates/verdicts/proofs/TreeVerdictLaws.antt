@@ -39,6 +39,7 @@ module _ (t : Tree) (b : Behaviour) (w : IsTree t) (recall : (i : ℕ) → i < t
     actions_are = h.reply_is;
     pays_best = sym (root-reply_value t b player h.choice) ∙ sym h.best_is;
     none_pays_more = λ other c. subst (λ x. payoff t (reply t b player other) player ≤ℚ x) (sym (root-reply_value t b player h.choice) ∙ sym h.best_is) (best_choices-pay_most t b player h.choice other w (recall player h.within) h.is_best c);
+    first_best = h.is_best;
   }
     where
       more : payoff t b player <ℚ reply_value t b player h.choice 0

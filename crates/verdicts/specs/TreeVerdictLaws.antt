@@ -1,6 +1,6 @@
 -- What a verdict on behaviour on a tree says, each law carried by the contract of a function of
 -- this crate.
-use Rattle.std.specs.Prelude.{ℕ, ◌<◌, ◌≡◌, ◌↔◌, List, length, map, All}
+use Rattle.std.specs.Prelude.{ℕ, ◌<◌, ◌≡◌, ◌↔◌, List, map, All}
 use Rattle.rational.specs.Rational.{ℚ, ◌≤ℚ◌}
 use Rattle.game_theory.specs.Trees.{Tree}
 use Rattle.game_theory.specs.Behaviour.{Behaviour, IsValid, IsChoice, payoff as payoff_of, reply}
@@ -30,7 +30,8 @@ AllPlayersFit t b =
     → All StepFits (player_steps t b i choice)
 
 -- A player has a better reply, no earlier player has one, and the reply's actions pay the most that
--- any pure reply pays, which is this.
+-- any pure reply pays, which is this. At each of the player's sets the action is the first that is
+-- worth the most.
 pub record ShowsBetterReply (t : Tree) (b : Behaviour) (player : ℕ) (payoff best : ℚ)
     (actions : List ℕ) : Type 0 where
   pub has_better : HasBetterReply t b player
@@ -42,6 +43,7 @@ pub record ShowsBetterReply (t : Tree) (b : Behaviour) (player : ℕ) (payoff be
   pub pays_best : payoff_of t (reply t b player choice) player ≡ best
   pub none_pays_more : (other : ℕ → ℕ) → IsChoice t player other
       → payoff_of t (reply t b player other) player ≤ℚ best
+  pub first_best : AreBestChoices t b player choice
 
 -- A verdict of equilibrium on valid behaviour is right, and so is a better reply; where all steps
 -- fit, the verdict of equilibrium comes exactly at equilibria.

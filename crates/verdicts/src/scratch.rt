@@ -59,6 +59,10 @@ impl Scratch {
     ghost use Rattle.behaviour_profile.specs.EntryStarts.{AreBehaviourEntries};
 
     /// Room for the check of a behaviour on this tree, with no reply.
+    ///
+    /// # Errors
+    ///
+    /// Memory ran out.
     pub fn new(alloc: Global, tree: &Tree) -> Result<Scratch, Memory>
         ensures scratch { IfOk result (IsScratchOf tree.now) }
         ensures reply { IfOk result (λ scratch. reply_of scratch ≡ []) }

@@ -152,6 +152,9 @@ impl<'a> TableReplies<'a> {
             let count = self.table.strategy_count(other);
             if other != self.player {
                 product = product.mul(entries[first + rest % count])?;
+                if product.is_zero() {
+                    return Ok(product);
+                }
             }
             first += count;
             rest /= count;

@@ -84,8 +84,8 @@ pub fn tree_verdicts_are_single()
 }
 
 /// A verdict of equilibrium on valid behaviour is right, a better reply is the first player's that
-/// has one and the best, and where all steps fit the verdict of equilibrium comes exactly at
-/// equilibria.
+/// has one and the best, at each set the first action that is worth the most, and where all steps
+/// fit the verdict of equilibrium comes exactly at equilibria.
 pub fn tree_verdicts_find_equilibria()
     ensures { TreeVerdictsFindEquilibria }
 {

@@ -6,11 +6,9 @@ use Rattle.std.proofs.lemmas.List.Elements.{All-nil, All-head, All-push, All-set
 use Rattle.std.proofs.lemmas.Option.{slice_get-map, slice_get_within, get_or_from_slice_get, same_Some}
 use Rattle.written_trees.proofs.NumberedKeyLemmas.{sets_of, outcomes_of}
 use Rattle.lists.proofs.OptionLemmas.{bind_some, chosen, mapped_some}
-use Rattle.rational.specs.Rational.{◌≤ℚ◌, zero_ℚ}
 use Rattle.game_core.specs.declared.tree.Action.{Action}
 use Rattle.game_core.specs.declared.tree.Node.{Node}
 use Rattle.game_core.specs.Tree.{GameTree, InformationSet, IsBelow, ProbabilitiesFit, NodeFits, SetFits, IsPartialTree}
-use Rattle.game_core.proofs.TreeLaws.{part_has}
 use Rattle.written_trees.specs.Written.{SetUse, OutcomeUse, WrittenNode}
 use Rattle.written_trees.specs.Described.{SetKey, key_of, same_set, set_uses, outcome_uses, uses_of_set, uses_of_outcome, described_set, described_outcome, IsFirstList, AgreeOnActions, IsActionOf, IsActionList}
 use Rattle.written_trees.specs.Building.{PartialSet, PartialOutcome, outcome_place, repeats_payoffs, new_outcome, used_outcome, with_outcome_use, use_outcome, use_some_outcome, open_branches, PartialTree, root_alone, add_nodes, finished_set, finished_outcome, tree_so_far}
@@ -111,11 +109,7 @@ all_pay n = built_so (λ written partial. All (IsWrittenNode n) written → PayA
 -- ---- sets
 -- probabilities that fit
 probabilities_fit : (owner : Option ℕ) (actions : List Action) → IsFirstList owner actions → All (IsActionOf owner) actions → ProbabilitiesFit owner actions
-probabilities_fit None actions f h =
-    record {
-      not_negative = λ a below. part_has (λ q. zero_ℚ ≤ℚ q) (λ action. action.prob) actions a zero_ℚ f.not_negative below;
-      sum_is_one = f.sum_is_one;
-    }
+probabilities_fit None actions f h = f.is_distribution
 probabilities_fit (Some i) actions f h = h
 
 -- a set of one of so many players or of chance, with actions

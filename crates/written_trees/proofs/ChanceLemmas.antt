@@ -1,6 +1,6 @@
 -- The tests of probabilities and payoffs say what the definitions say.
 use Rattle.std.proofs.Common.{◌≡◌, ℕ, zero, suc, ◌<◌, List, [], ◌∷◌, length, map, Option, Some, None, All, Decides, IfSome, refl, sym, ap, ◌∙◌, subst, arith}
-use Rattle.std.proofs.lemmas.List.{length-map}
+use Rattle.std.proofs.lemmas.List.{get_or-map, length-map}
 use Rattle.std.proofs.lemmas.List.Elements.{All-nil, All-cons, All-head, All-tail, All-map}
 use Rattle.std.proofs.lemmas.Bool.Decides.{Decides-ltb, Decides-and, Decides-like}
 use Rattle.std.proofs.lemmas.Slice.Eq.{slice_eq-Decides}
@@ -15,6 +15,7 @@ use Rattle.rational.proofs.SumLemmas.{sum_to-first, sum_to-nonneg}
 use Rattle.frac128.specs.Steps.{AddFits}
 use Rattle.game_core.specs.declared.tree.Action.{Action}
 use Rattle.game_core.specs.Tree.{probability_at}
+use Rattle.game_core.proofs.TreeLaws.{part_has}
 use Rattle.written_trees.specs.Described.{AddUpToOne, IsFirstList}
 use Rattle.written_trees.specs.Building.{add_test, may_follow, adds_up, may_be_first, repeats_actions, repeats_payoffs}
 
@@ -94,17 +95,16 @@ adds_up-Decides actions = Decides-like (adds_up zero_ℚ actions) there back (ad
     there : EndWithOne zero_ℚ actions → AddUpToOne actions
     there h =
         record {
-          not_negative = h.not_negative;
+          is_distribution = record { not_negative = λ a below. part_has (λ q. zero_ℚ ≤ℚ q) (λ action. action.prob) actions a zero_ℚ h.not_negative below; sum_is_one = sym (zero-+ℚ _) ∙ h.sum_is_one };
           additions_fit = λ a lt. subst (λ s. AddFits s (probability_at actions a)) (zero-+ℚ _) (h.additions_fit a lt);
-          sum_is_one = sym (zero-+ℚ _) ∙ h.sum_is_one;
         }
 
     back : AddUpToOne actions → EndWithOne zero_ℚ actions
     back h =
         record {
-          not_negative = h.not_negative;
+          not_negative = λ a d below. subst (λ q. zero_ℚ ≤ℚ q) (get_or-map (λ action. action.prob) actions a d zero_ℚ below) (h.is_distribution.not_negative a below);
           additions_fit = λ a lt. subst (λ s. AddFits s (probability_at actions a)) (sym (zero-+ℚ _)) (h.additions_fit a lt);
-          sum_is_one = zero-+ℚ _ ∙ h.sum_is_one;
+          sum_is_one = zero-+ℚ _ ∙ h.is_distribution.sum_is_one;
         }
 
 -- the test of a first list of actions

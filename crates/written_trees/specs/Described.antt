@@ -1,8 +1,8 @@
 -- The game tree that written nodes describe. Source: Gambit's description of its `.efg` format, version 2.
 use Rattle.std.specs.Prelude.{ℕ, suc, ◌<◌, ◌≡◌, ◌≢◌, ◌↔◌, ◌&&◌, nat_eq, Bool, List, [], ◌∷◌, length, map, slice_get, filter, All, Contains, IfSome, option_map, unwrap_or, Option, Some, None}
 use Rattle.std.specs.Option.{option_eq}
-use Rattle.rational.specs.Rational.{ℚ, ◌≤ℚ◌, zero_ℚ, one_ℚ}
-use Rattle.rational.specs.Sum.{sum_to}
+use Rattle.rational.specs.Rational.{ℚ, zero_ℚ}
+use Rattle.rational.specs.Sum.{sum_to, IsDistribution}
 use Rattle.frac128.specs.Steps.{AddFits}
 use Rattle.game_core.specs.declared.tree.Action.{Action}
 use Rattle.game_core.specs.declared.tree.Kind.{Kind}
@@ -106,11 +106,10 @@ described_outcome label uses = record {
   payoffs = first_list (map (λ x. x.1.payoffs) uses);
 }
 
--- the probabilities of chance are not negative; each can be added to the sum of those before it, and the whole sum is 1
+-- the actions of chance have a probability distribution, in which each can be added to the sum of those before it
 pub record AddUpToOne (actions : List Action) : Type 0 where
-  pub not_negative : All (λ action. zero_ℚ ≤ℚ action.prob) actions
+  pub is_distribution : IsDistribution (length actions) (probability_at actions)
   pub additions_fit : (a : ℕ) → a < length actions → AddFits (sum_to a (probability_at actions)) (probability_at actions a)
-  pub sum_is_one : sum_to (length actions) (probability_at actions) ≡ one_ℚ
 
 -- the first list of a set of chance has probabilities
 abbrev pub IsFirstList : Option ℕ → List Action → Type 0

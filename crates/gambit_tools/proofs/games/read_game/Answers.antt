@@ -29,7 +29,7 @@ returns g c = (
     let after = g.I.Inputs.seen c.read_input.new.inputs in
     let bytes = c.in_ok-bytes.bytes.items in
     let gives = subst (λ b. Gives refusal.Memory (game_in b) c.game_in.result) c.deref.ensures.value c.game_in.ensures in
-    go name before after bytes c.game_in.result (λ command one. record { one = one; are = c.in_ok-bytes.ensures.bytes; few = c.in_ok-bytes.ensures.within_limit; read = c.in_ok-bytes.ensures.read; ends = c.in_ok-bytes.ensures.ends; counts = c.in_ok-bytes.ensures.counts; once = c.in_ok-bytes.ensures.selections; stay = c.in_ok-bytes.ensures.held }) gives)
+    go name before after bytes c.game_in.result (λ command one. record { one = one; are = c.in_ok-bytes.ensures.bytes; there = c.in_ok-bytes.ensures.is_there; few = c.in_ok-bytes.ensures.within_limit; read = c.in_ok-bytes.ensures.read; ends = c.in_ok-bytes.ensures.ends; counts = c.in_ok-bytes.ensures.counts; once = c.in_ok-bytes.ensures.selections; stay = c.in_ok-bytes.ensures.held }) gives)
   where
     go : (name : InputName) (before after : InputsSeen) (bytes : List ℕ) (result : Result Game Refusal) → ((command : Command) → inputs_of command ≡ name ∷ [] → IsRead command name before after bytes)
         → Gives refusal.Memory (game_in bytes) result → ReadsGame name before after result

@@ -4,4 +4,4 @@ use Rattle.words.proofs.RangeLemmas.{ranges}
 use Rattle.gambit_tools.proofs.tools.answer.Goals as goal
 
 pub compute-requires-clause-ranges : goal.compute-requires-clause-ranges
-compute-requires-clause-ranges g c κs within = ranges (map string_bytes c.args.words.now) (command_of c.in-Ok.settings) c.in-Ok.ensures.settings
+compute-requires-clause-ranges g c κs within = ranges (map string_bytes c.args.words.now) (command_of c.in_ok-settings.settings) c.in_ok-settings.ensures.settings

@@ -9,6 +9,7 @@ use Rattle.enumpure.proofs.OneTextLaws.{text-is}
 use Rattle.enumpure_trees.proofs.OneTextLaws.{passing_text-is}
 use Rattle.gambit_tools.specs.Enumpure.{IsPureText, IsTreeText, enumpure, tree_answer}
 use Rattle.gambit_tools.specs.Make.{counts_text}
+use Rattle.gambit_tools.proofs.ConvertLaws.{convert-is}
 use Rattle.gambit_tools.proofs.ReadGameLemmas.{game_in-valid}
 use Rattle.gambit_tools.proofs.CheckTextLemmas.{verdicts-tell}
 use Rattle.gambit_tools.proofs.tools.texts_hold_for_the_game.Goals as goal
@@ -30,6 +31,7 @@ returns c = record {
   enummixed = λ all workers file bytes text h. (h.0, h.1, c.enummixed_texts_are_extreme.ensures all h.0 text h.2);
   lcp = λ strategic perfect file bytes text h. (h.0, h.1, c.lcp_texts_are_equilibria.ensures strategic perfect h.0 text (game_in-valid bytes h.0 h.1) h.2);
   lp = λ strategic prices perfect file bytes text h. (h.0, h.1, c.lp_texts_are_solutions.ensures strategic prices perfect h.0 text (game_in-valid bytes h.0 h.1) h.2);
+  convert = λ shape row column file bytes text h. (h.0, h.1, convert-is shape row column h.0 text h.2);
   check = λ strategic name file bytes lines text h.
       (let read = h.2.2 in
       (read.0, read.1, verdicts-tell c.table_checks_tell_equilibria.ensures c.tree_checks_tell_equilibria.ensures strategic read.0 lines text (game_in-valid bytes read.0 read.1) read.2));

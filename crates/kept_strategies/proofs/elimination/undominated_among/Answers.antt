@@ -21,14 +21,16 @@ loop-strategy-preserved c =
       | then-not-is_dominated+in_ok-push w ↦
           let is = ap (λ v. v.items) w.kept-is ∙ (w.in_ok-push.ensures {u = tt}).items in
           record {
-            listed = subst (AreListed (λ s. Contains (take (k + 1) own) s × (D s → ⊥))) (sym is) (stays-listed D own c.requires.ascending k l before inv.listed (λ d. cc (w.if-not-is_dominated.true, c.is_dominated.ensures.1 d)));
-            all_or_fewer = subst (λ xs. (xs ≡ take (k + 1) own) ⊎ (length xs < k + 1)) (sym is) (stays-count D own c.requires.ascending k l before inv.all_or_fewer);
+            listed = subst (AreListed (λ s. Contains (take (k + 1) own) s × (D s → ⊥))) (sym is) (stays-listed D own c.requires.own_ascending k l before inv.listed (λ d. cc (w.if-not-is_dominated.true, c.is_dominated.ensures.dominated.1 d)));
+            ahead = c.is_dominated.ensures.ahead;
+            all_or_fewer = subst (λ xs. (xs ≡ take (k + 1) own) ⊎ (length xs < k + 1)) (sym is) (stays-count D own c.requires.own_ascending k l before inv.all_or_fewer);
           }
       | else-not-is_dominated w ↦
           let is = ap (λ v. v.items) w.kept-is in
           record {
-            listed = subst (AreListed (λ s. Contains (take (k + 1) own) s × (D s → ⊥))) (sym is) (goes-listed D own c.requires.ascending k l before inv.listed (c.is_dominated.ensures.0 (cc w.if-not-is_dominated.false)));
-            all_or_fewer = subst (λ xs. (xs ≡ take (k + 1) own) ⊎ (length xs < k + 1)) (sym is) (goes-count D own c.requires.ascending k l before inv.all_or_fewer);
+            listed = subst (AreListed (λ s. Contains (take (k + 1) own) s × (D s → ⊥))) (sym is) (goes-listed D own c.requires.own_ascending k l before inv.listed (c.is_dominated.ensures.dominated.0 (cc w.if-not-is_dominated.false)));
+            ahead = c.is_dominated.ensures.ahead;
+            all_or_fewer = subst (λ xs. (xs ≡ take (k + 1) own) ⊎ (length xs < k + 1)) (sym is) (goes-count D own c.requires.own_ascending k l before inv.all_or_fewer);
           }
     ]
 

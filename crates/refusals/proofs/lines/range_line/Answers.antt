@@ -1,13 +1,11 @@
-use Rattle.std.proofs.Common.{◌∙◌, ℕ, ◌≡◌, List, [], ◌∷◌, ◌++◌, string_bytes, codes, refl, append_assoc}
+use Rattle.std.proofs.Common.{◌∙◌, ℕ, ◌≡◌, List, [], ◌∷◌, ◌++◌, codes, append_assoc}
+use Rattle.frac128.specs.Texts.{step_text}
+use Rattle.refusals.specs.Refusals.{site_text}
 use Rattle.refusals.proofs.lines.range_line.Goals as goal
 
 -- the words where their parts are known
-parts : (place site op step left one right other : List ℕ) → place ≡ site → op ≡ step → left ≡ one → right ≡ other
-    → codes "gambit: range in " ++ place ++ codes ": " ++ op ++ codes " " ++ left ++ codes " " ++ right ++ 10 ∷ [] ≡ codes "gambit: range in " ++ site ++ codes ": " ++ step ++ codes " " ++ one ++ codes " " ++ other ++ 10 ∷ []
-parts place site op step left one right other d e f g = rw (d, e, f, g) refl
+joined : (site step : List ℕ) → codes "gambit: range in " ++ (site ++ (codes ": " ++ (step ++ 10 ∷ []))) ≡ codes "gambit: " ++ (codes "range in " ++ site ++ codes ": " ++ step) ++ 10 ∷ []
+joined site step = simp append_assoc
 
 pub returns : goal.returns
-returns c =
-    let words : string_bytes c.in_ok-format.field-0 ≡ codes "gambit: range in " ++ string_bytes c.in_ok-site.site ++ codes ": " ++ c.op_text-op.result.now ++ codes " " ++ string_bytes c.in_ok-left.left ++ codes " " ++ string_bytes c.in_ok-right.right ++ 10 ∷ [] =
-    c.in_ok-format.ensures.ok ∙ simp append_assoc in
-    words ∙ parts (string_bytes c.in_ok-site.site) _ c.op_text-op.result.now _ (string_bytes c.in_ok-left.left) _ (string_bytes c.in_ok-right.right) _ c.in_ok-site.ensures c.op_text-op.ensures c.in_ok-left.ensures c.in_ok-right.ensures
+returns c = c.in_ok-format.ensures.ok ∙ joined (site_text c.args.site.now) (step_text c.args.unfit)

@@ -1,15 +1,15 @@
-use Rattle.std.proofs.Common.{◌∙◌, ℕ, ◌≡◌, ◌+◌, List, [], ◌∷◌, ◌++◌, string_bytes, codes, refl, append_assoc}
+use Rattle.std.proofs.Common.{◌∙◌, ℕ, ◌≡◌, ◌+◌, List, [], ◌∷◌, ◌++◌, codes, append_assoc}
 use Rattle.std.specs.Fmt.{decimal}
+use Rattle.rational.specs.Text.{number_text}
 use Rattle.refusals.proofs.lines.sums_line.Goals as goal
 
 -- the words where their parts are known
-parts : (first second : ℕ) (one sum two other : List ℕ) → one ≡ sum → two ≡ other
-    → codes "gambit: not constant sum: " ++ decimal first ++ codes " has " ++ one ++ codes ", " ++ decimal second ++ codes " has " ++ two ++ 10 ∷ []
-    ≡ codes "gambit: not constant sum: " ++ decimal first ++ codes " has " ++ sum ++ codes ", " ++ decimal second ++ codes " has " ++ other ++ 10 ∷ []
-parts first second one sum two other e f = rw (e, f) refl
+joined : (a b first second : ℕ) (one other : List ℕ) → a ≡ first + 1 → b ≡ second + 1
+    → codes "gambit: not constant sum: " ++ (decimal a ++ (codes " has " ++ (one ++ (codes ", " ++ (decimal b ++ (codes " has " ++ (other ++ 10 ∷ [])))))))
+    ≡ codes "gambit: " ++ (codes "not constant sum: " ++ decimal (first + 1) ++ codes " has " ++ one ++ codes ", " ++ decimal (second + 1) ++ codes " has " ++ other) ++ 10 ∷ []
+joined a b first second one other e f = rw (e, f) (simp append_assoc)
 
 pub returns : goal.returns
 returns c =
-    let words : string_bytes c.in_ok-format.field-0 ≡ codes "gambit: not constant sum: " ++ decimal (c.args.sums.first + 1) ++ codes " has " ++ string_bytes c.in_ok-one_sum.one_sum ++ codes ", " ++ decimal (c.args.sums.second + 1) ++ codes " has " ++ string_bytes c.in_ok-other_sum.other_sum ++ 10 ∷ [] =
-    c.in_ok-format.ensures.ok ∙ simp append_assoc in
-    words ∙ parts (c.args.sums.first + 1) (c.args.sums.second + 1) (string_bytes c.in_ok-one_sum.one_sum) _ (string_bytes c.in_ok-other_sum.other_sum) _ c.in_ok-one_sum.ensures c.in_ok-other_sum.ensures ∙ simp append_assoc
+    c.in_ok-format.ensures.ok
+    ∙ joined c.from_one-first.result c.from_one-second.result c.args.sums.first c.args.sums.second (number_text c.args.sums.first_sum) (number_text c.args.sums.second_sum) c.from_one-first.ensures c.from_one-second.ensures

@@ -2,4 +2,4 @@ use Rattle.std.proofs.Common.{◌∙◌, append_assoc}
 use Rattle.refusals.proofs.lines.text_line.Goals as goal
 
 pub returns : goal.returns
-returns c = c.in_ok-format.ensures.ok ∙ simp (append_assoc, c.text_kind_text-kind.ensures)
+returns c = c.in_ok-format.ensures.ok ∙ simp append_assoc

@@ -1,6 +1,6 @@
 use Rattle.std.proofs.Common.{map}
 use Rattle.game_core.specs.TreeGame.{game_of_tree}
-use Rattle.subgames.specs.FoundSubgames.{ListCutsBefore}
+use Rattle.subgames.proofs.CutListLemmas.{ListCutsBefore}
 use Rattle.subgames.proofs.cut_nodes.cut_lists.Given as goal
 
 abbrev pub invariant-loop-node : goal.invariant-loop-node

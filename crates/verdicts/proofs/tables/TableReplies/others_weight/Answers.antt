@@ -9,10 +9,10 @@ use Rattle.game_core.proofs.TableCountLemmas.{length-strategy_counts}
 use Rattle.behaviour_profile.specs.EntryTests.{mixed_of}
 use Rattle.behaviour_profile.proofs.GroupListLemmas.{sum-nil}
 use Rattle.verdicts.specs.TableReplies.{mixed_at}
-use Rattle.verdicts.proofs.TableOtherLemmas.{GiveFrom, all-left, none-left, own-left, other-left, other-unfit, strategies-left}
+use Rattle.verdicts.proofs.TableOtherLemmas.{GiveFrom, all-left, none-left, own-left, other-left, other-unfit, zero-left, strategies-left}
 use Rattle.verdicts.proofs.TablePartLemmas.{strategies-few, player-within, some_strategy, entries-next, entries-within}
 use Rattle.verdicts.proofs.tables.TableReplies.others_weight.Goals as goal
-use Rattle.verdicts.proofs.tables.TableReplies.others_weight.Goals.{After-strategy_count-count, After-index-entries-first, then-other-self+in_ok-product, else-other-self}
+use Rattle.verdicts.proofs.tables.TableReplies.others_weight.Goals.{After-strategy_count-count, After-index-entries-first, then-other-self+in_ok-product+else-is_zero, else-other-self}
 
 is_player : (c : After-strategy_count-count) → c.loop-other.other < length c.args.self.now.table.now.players
 is_player c = omega (arith, c.loop-other-test.true, ap length c.players-other-end.ensures.players)
@@ -76,6 +76,17 @@ returns-in_err-product c =
     (other-unfit m c.args.self.now.player c.loop-other.other (c.loop-other.rest % c.strategy_count-count.result) _ c.loop-other.product c.index-entries-first.result c.in_err-product.field-0.0 c.if-other-self.true
     (entry (goal.at.returns-in_err-product c).After-index-entries-first (place a)) c.in_err-product.ensures.step c.in_err-product.ensures.unfit)))
 
+pub returns-then-is_zero : goal.returns-then-is_zero
+returns-then-is_zero c =
+    let a = (goal.at.returns-then-is_zero c).After-strategy_count-count in
+    let m = mixed_at c.args.self.now in
+    let product = c.in_ok-product.product in
+    c.loop-other.invariant.left (Ok product)
+    (subst (λ v. GiveFrom m c.args.self.now.player c.loop-other.other v c.loop-other.product (Ok product)) (sym (here a))
+    (other-left m c.args.self.now.player c.loop-other.other (c.loop-other.rest % c.strategy_count-count.result) _ c.loop-other.product c.index-entries-first.result product (Ok product) c.if-other-self.true
+    (entry (goal.at.returns-then-is_zero c).After-index-entries-first (place a)) c.in_ok-product.ensures.fits c.in_ok-product.ensures.value
+    (zero-left m c.args.self.now.player (suc c.loop-other.other) _ product (c.is_zero.ensures.0 c.if-is_zero.true))))
+
 pub loop-other-preserved : goal.loop-other-preserved
 loop-other-preserved c =
     let a = (goal.at.loop-other-preserved c).After-strategy_count-count in
@@ -90,7 +101,7 @@ loop-other-preserved c =
       left = λ r h. c.loop-other.invariant.left r
           (subst (λ v. GiveFrom m c.args.self.now.player j v c.loop-other.product r) (sym (here a))
           (elim c.if-other-self.branch [
-            | then-other-self+in_ok-product w ↦
+            | then-other-self+in_ok-product+else-is_zero w ↦
                 other-left m c.args.self.now.player j s later c.loop-other.product w.index-entries-first.result w.in_ok-product.product r w.if-other-self.true
                 (get_or_read c.args.self.now.mixed.now (c.loop-other.first + s) w.index-entries-first.result (place a)
                 (w.index-entries-first.is ∙ ap (λ v. get_or v (c.loop-other.first + s) w.index-entries-first.result) c.entries-entries.ensures) zero_ℚ
