@@ -4,9 +4,9 @@
 //! Callers may rely on: `stages_are_single`, that stages have at most one answer if each has;
 //! `stages_give` and `reasons_are_told`, what a call gives that computes them.
 //! Definitions: `specs::Answers` has `Answer`, `IsSingle`, `Gives`, and how stages are put
-//! together.
+//! together; `specs::Answered` has `IsAnswered`, that there is an answer.
 //! Lemmas for callers: `proofs::AnswerLemmas`, by which a relation made of stages is single and a
-//! call gives what it says.
+//! call gives what it says; `AnsweredLemmas`, by which it has an answer.
 //! A change here touches: the contract of nearly every call that can be refused, up to that of
 //! `run`.
 #![tactic(auto)]

@@ -1,3 +1,5 @@
+pub mod AnsweredLevelLemmas
+pub mod AnsweredVertexLemmas
 pub mod AscendingListLemmas
 pub mod BasicValueLemmas
 pub mod CompleteLevelLaws

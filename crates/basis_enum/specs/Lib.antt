@@ -1,3 +1,4 @@
+pub mod AnsweredLaws
 pub mod Bases
 pub mod Children
 pub mod Enumeration

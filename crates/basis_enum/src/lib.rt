@@ -2,7 +2,8 @@
 //! reach.
 //!
 //! Callers may rely on: `enumerate` gives each vertex once, in the order of masks, with the number
-//! of bases, which are no fewer, or the first step that does not fit, or the limit; the pivots that
+//! of bases, which are no fewer, or the first step that does not fit, or the limit: one of these, and
+//! only one (`vertices_are_single`, `vertices_are_answered`); the pivots that
 //! are counted are one fewer than the bases. `enumerate_with` gives the same by `Helpers`, idle
 //! workers that several enumerations share.
 //! Definitions: `specs::Reached` has the bases of a system in stages, level by level, `Levels` what
@@ -13,6 +14,7 @@
 //! A change here touches: `label_pairing`, `enummixed`, and the counts of `make`.
 #![tactic(auto)]
 
+ghost use Rattle.basis_enum.specs.AnsweredLaws.{ReachedAreAnswered, VerticesAreAnswered};
 ghost use Rattle.basis_enum.specs.Enumeration.{VerticesAreSingle};
 ghost use Rattle.basis_enum.specs.Laws.{NumbersOrderBases, CompleteLevelsCover, CompleteLevelsAreExtreme};
 ghost use Rattle.basis_enum.specs.Reached.{ReachedAreSingle};
@@ -40,6 +42,16 @@ pub fn vertices_are_single()
 /// What a system reaches is one thing at most: all its bases, or one reason why not.
 pub fn reached_are_single()
     ensures { ReachedAreSingle }
+{}
+
+/// A system has an answer: its vertices, or why they are not listed.
+pub fn vertices_are_answered()
+    ensures { VerticesAreAnswered }
+{}
+
+/// A system has an answer: all its bases, or a reason why not.
+pub fn reached_are_answered()
+    ensures { ReachedAreAnswered }
 {}
 
 /// Bases as numbers have the order of the ascending lists of basic variables.

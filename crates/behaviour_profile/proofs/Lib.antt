@@ -1,4 +1,5 @@
 mod ActionTotalLemmas
+pub mod AnsweredProfileLemmas
 pub mod BehaviourEntryLemmas
 pub mod EntryStartLemmas
 pub mod FirstFaultLemmas

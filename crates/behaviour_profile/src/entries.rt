@@ -14,6 +14,7 @@ ghost use Rattle.std.specs.Prelude.{
   IsTrue,
   MatchOption,
 };
+ghost use Rattle.answers.specs.Answered.{IsAnswered};
 ghost use Rattle.answers.specs.Answers.{IsSingle, map_ok, refused_by};
 ghost use Rattle.rational.specs.Rational.{ℚ};
 ghost use Rattle.game_core.specs.TreeGame.{game_of_tree};
@@ -189,6 +190,11 @@ impl Behaviour {
 /// Entries have at most one answer: that they are all right, or what is wrong with them first.
 pub fn profiles_are_single()
     ensures { (sizes : List ℕ) (entries : List ℚ) → IsSingle (profile_in sizes entries) }
+{}
+
+/// Entries have an answer: that they are all right, or what is wrong with them first.
+pub fn profiles_are_answered()
+    ensures { (sizes : List ℕ) (entries : List ℚ) → IsAnswered (profile_in sizes entries) }
 {}
 
 /// Entries that are all right are those of a valid mixed profile.

@@ -31,12 +31,12 @@ mod starts;
 
 use answers::Memory;
 pub use entries::{
-    ProfileFault, profiles_are_single, test_group, tested_entries_are_behaviours,
-    tested_entries_are_profiles,
+    ProfileFault, profiles_are_answered, profiles_are_single, test_group,
+    tested_entries_are_behaviours, tested_entries_are_profiles,
 };
 use frac128::Frac;
 use game_core::{Tree, push_sure};
-pub use plans::{BehaviourStop, plan_behaviours_are_single};
+pub use plans::{BehaviourStop, plan_behaviours_are_answered, plan_behaviours_are_single};
 use reduced_form::Reduced;
 pub use starts::starts_of;
 use std::alloc::Global;

@@ -12,6 +12,7 @@ ghost use Rattle.std.specs.Prelude.{
   OnOk,
   Ok,
 };
+ghost use Rattle.answers.specs.Answered.{IsAnswered};
 ghost use Rattle.answers.specs.Answers.{Gives, IsSingle};
 ghost use Rattle.rational.specs.Rational.{ℚ};
 ghost use Rattle.frac128.specs.Steps.{StepsGive};
@@ -173,4 +174,9 @@ impl Behaviour {
 /// fit.
 pub fn plan_behaviours_are_single()
     ensures { (t : GameTree) (one two : List ℚ) → IsSingle (plan_behaviour t one two) }
+{}
+
+/// Two lists of weights have an answer: their behaviour, or the first quotient that does not fit.
+pub fn plan_behaviours_are_answered()
+    ensures { (t : GameTree) (one two : List ℚ) → IsAnswered (plan_behaviour t one two) }
 {}

@@ -1,3 +1,4 @@
+pub mod AnsweredLayoutLemmas
 pub mod AxisLemmas
 pub mod CellPlaceLemmas
 pub mod NumberedTextLemmas

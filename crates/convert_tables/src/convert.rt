@@ -2,6 +2,7 @@
 ghost use Rattle.std.specs.Prelude.{◌≡◌, ◌≢◌, ◌-◌, ◌<◌, ◌≤◌, ◌++◌, ◌↔◌, IsTrue, ℕ, length, IfOk, OnOk};
 ghost use Rattle.std.specs.Result.{IsErrOf};
 ghost use Rattle.answers.specs.Answers.{Gives, IsSingle, map_ok};
+ghost use Rattle.answers.specs.Answered.{IsAnswered};
 ghost use Rattle.game_core.specs.Table.{GameTable};
 ghost use Rattle.game_core.specs.Limits.{most_text};
 ghost use Rattle.convert_tables.specs.Examples.{PrisonersDilemmaIsLaidOut};
@@ -165,6 +166,12 @@ pub fn sgame(alloc: Global, table: &Table, row: u32, column: u32) -> Result<Vec<
 pub fn layouts_are_single()
     ensures html { (table : GameTable) (row column : ℕ) → IsSingle (html_text table row column) }
     ensures sgame { (table : GameTable) (row column : ℕ) → IsSingle (sgame_text table row column) }
+{}
+
+/// A table has an answer of each kind.
+pub fn layouts_are_answered()
+    ensures html { (table : GameTable) (row column : ℕ) → IsAnswered (html_text table row column) }
+    ensures sgame { (table : GameTable) (row column : ℕ) → IsAnswered (sgame_text table row column) }
 {}
 
 /// The layouts of the prisoners' dilemma.

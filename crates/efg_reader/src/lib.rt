@@ -15,4 +15,4 @@ mod nodes;
 mod reading;
 
 pub use fault::{EfgFault, EfgStop};
-pub use reading::{read, trees_are_single};
+pub use reading::{read, trees_are_answered, trees_are_single};

@@ -1,6 +1,7 @@
 // Reads a tree from the tokens of a file.
 ghost use Rattle.std.specs.Prelude.{◌≡◌, ◌<◌, ◌^◌, length, IfOk, IfErr};
 ghost use Rattle.answers.specs.Answers.{Gives, IsSingle};
+ghost use Rattle.answers.specs.Answered.{IsAnswered};
 ghost use Rattle.game_core.specs.Tree.{IsGameTree};
 ghost use Rattle.written_trees.specs.Building.{tree_so_far};
 ghost use Rattle.efg_reader.specs.Stops.{IsEfgStop, IsNodesStop, tree_in};
@@ -90,4 +91,9 @@ pub fn read(alloc: Global, tokens: &Tokens) -> Result<Tree, EfgStop>
 /// The tokens of a source have one answer at most.
 pub fn trees_are_single()
     ensures { (tokens : TokenList) → IsSingle (tree_in tokens) }
+{}
+
+/// The tokens of a source, of which there are fewer than 2^32, have an answer.
+pub fn trees_are_answered()
+    ensures { (tokens : TokenList) → length tokens.list < 2 ^ 32 → IsAnswered (tree_in tokens) }
 {}

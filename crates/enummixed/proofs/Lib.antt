@@ -1,3 +1,5 @@
+pub mod AnsweredPairLemmas
+pub mod AnsweredTextLemmas
 pub mod DistinctListLemmas
 pub mod ExtremeLineLemmas
 pub mod KeptLineLemmas

@@ -1,3 +1,4 @@
+pub mod AnsweredLaws
 pub mod BothVertices
 pub mod ExtremeText
 pub mod Laws

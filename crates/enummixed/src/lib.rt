@@ -10,6 +10,7 @@
 //! A change here touches: what `enummixed` and `make` answer, and `enummixed_texts_are_extreme`.
 #![tactic(auto)]
 
+ghost use Rattle.enummixed.specs.AnsweredLaws.{ExtremePairsAreAnswered, ExtremeTextsAreAnswered};
 ghost use Rattle.enummixed.specs.Laws.{ExtremePairsAreSingle, ExtremeTextsAreSingle, PairsAreAsManyAsExtremeEquilibria};
 
 mod extreme;
@@ -32,6 +33,17 @@ pub fn extreme_pairs_are_single()
 /// A game has one answer at most: a text of extreme equilibria, or why it has none.
 pub fn extreme_texts_are_single()
     ensures { ExtremeTextsAreSingle }
+{}
+
+/// A game, each of whose players has a strategy, has an answer: a list of pairs, or why it has none.
+pub fn extreme_pairs_are_answered()
+    ensures { ExtremePairsAreAnswered }
+{}
+
+/// Such a game has an answer: a text of extreme equilibria, or why it has none. So has a table, where
+/// its text is found by its kept strategies.
+pub fn extreme_texts_are_answered()
+    ensures { ExtremeTextsAreAnswered }
 {}
 
 /// The pairs of a game are as many as its extreme equilibria.

@@ -1,3 +1,4 @@
+pub mod AnsweredTextLemmas
 pub mod BestPayoffLemmas
 pub mod ColumnLemmas
 pub mod ExchangeLemmas

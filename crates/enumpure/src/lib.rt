@@ -17,5 +17,7 @@ mod lengths;
 mod listing;
 mod replies;
 
-pub use listing::{ListStop, list_profiles, list_pure_equilibria, pure_texts_are_single};
+pub use listing::{
+    ListStop, list_profiles, list_pure_equilibria, pure_texts_are_answered, pure_texts_are_single,
+};
 pub use replies::{Column, keep_best_replies, mutual_best_replies};

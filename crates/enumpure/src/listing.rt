@@ -1,6 +1,7 @@
 // The lines of the profiles that pass, and the text of the pure equilibria of a table.
 ghost use Rattle.std.specs.Prelude.{◌≡◌, ◌<◌, ◌≤◌, ◌^◌, ◌++◌, All, length, IfOk, OnOk};
 ghost use Rattle.answers.specs.Answers.{Gives, IsSingle, map_ok};
+ghost use Rattle.answers.specs.Answered.{IsAnswered};
 ghost use Rattle.game_theory.specs.Profiles.{Game, IsProfile, number_of, profile_count};
 ghost use Rattle.game_theory.specs.Mixed.{pure};
 ghost use Rattle.game_theory.specs.Lines.{entries as entries_of, lines_text};
@@ -168,4 +169,9 @@ pub fn list_pure_equilibria(alloc: Global, table: &Table) -> Result<Vec<u8>, Lis
 /// A game has at most one answer: the text, or that it is too long.
 pub fn pure_texts_are_single()
     ensures { (game : Game) → IsSingle (pure_text game) }
+{}
+
+/// Every game has an answer.
+pub fn pure_texts_are_answered()
+    ensures { (game : Game) → IsAnswered (pure_text game) }
 {}

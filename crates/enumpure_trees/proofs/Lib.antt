@@ -1,3 +1,5 @@
+pub mod AnsweredBehaviourLemmas
+pub mod AnsweredPassingLemmas
 pub mod BestReplyLemmas
 pub mod ChoiceNumberLemmas
 pub mod ColumnLemmas

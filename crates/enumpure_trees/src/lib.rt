@@ -31,8 +31,10 @@ mod stop;
 mod test_nodes;
 mod values;
 
-pub use listing::{behaviour_texts_are_single, list_pure_behaviours};
-pub use passing_listing::{list_passing_choices, passing_texts_are_single};
+pub use listing::{behaviour_texts_are_answered, behaviour_texts_are_single, list_pure_behaviours};
+pub use passing_listing::{
+    list_passing_choices, passing_texts_are_answered, passing_texts_are_single,
+};
 pub use stop::ChoiceStop;
 
 /// Two profiles never have the same line.

@@ -1,10 +1,12 @@
 // The text of the pure equilibria of a tree.
 ghost use Rattle.std.specs.Prelude.{◌≡◌, ◌<◌, ◌++◌, ℕ, List, length, map, IfOk, OnOk, replicate};
 ghost use Rattle.answers.specs.Answers.{Gives, IsSingle, map_ok};
+ghost use Rattle.answers.specs.Answered.{IsAnswered};
 ghost use Rattle.game_theory.specs.Profiles.{IsProfile, profile_count, number_of, strategies_at};
 ghost use Rattle.game_theory.specs.Lines.{line_text};
 ghost use Rattle.game_theory.specs.Trees.{IsTree, Tree as game_tree};
 ghost use Rattle.game_core.specs.TreeGame.{game_of_tree};
+ghost use Rattle.reduced_strategies.specs.StrategicForm.{AreStrategies};
 ghost use Rattle.reduced_form.specs.ReducedForm.{IsReducedForm};
 ghost use Rattle.enumpure_trees.specs.Listing.{listed_text};
 ghost use Rattle.game_theory.specs.Ranks.{ranked};
@@ -171,4 +173,10 @@ pub fn list_pure_behaviours(
 pub fn behaviour_texts_are_single()
     ensures { (t : game_tree) (strategies : List (List (List ℕ)))
         → IsSingle (behaviour_text t strategies) }
+{}
+
+/// Every tree has an answer.
+pub fn behaviour_texts_are_answered()
+    ensures { (t : game_tree) (strategies : List (List (List ℕ))) → IsTree t
+        → AreStrategies t strategies → IsAnswered (behaviour_text t strategies) }
 {}

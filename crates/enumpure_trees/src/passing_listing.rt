@@ -1,8 +1,9 @@
 // The text of the choices that pass.
 ghost use Rattle.std.specs.Prelude.{◌≡◌, Bool};
 ghost use Rattle.answers.specs.Answers.{Gives, IsSingle, map_ok};
+ghost use Rattle.answers.specs.Answered.{IsAnswered};
 ghost use Rattle.game_core.specs.TreeGame.{game_of_tree};
-ghost use Rattle.game_theory.specs.Trees.{Tree as game_tree};
+ghost use Rattle.game_theory.specs.Trees.{IsTree, Tree as game_tree};
 ghost use Rattle.enumpure_trees.specs.PassingStops.{passing_text};
 ghost use Rattle.enumpure_trees.specs.declared.stop.ChoiceStop.TheVariants as stops;
 
@@ -52,4 +53,10 @@ pub fn list_passing_choices(
 /// A tree has at most one answer: the text, or why there is none.
 pub fn passing_texts_are_single()
     ensures { (agents perfect : Bool) (t : game_tree) → IsSingle (passing_text agents perfect t) }
+{}
+
+/// Every tree has an answer.
+pub fn passing_texts_are_answered()
+    ensures { (agents perfect : Bool) (t : game_tree) → IsTree t
+        → IsAnswered (passing_text agents perfect t) }
 {}

@@ -1,9 +1,11 @@
 -- The first step that does not fit is one.
-use Rattle.std.proofs.Common.{ℕ, ◌≡◌, ◌<◌, ◌+◌, suc, length, take, drop, get_or, map, add-one, List, [], ◌∷◌, ◌++◌, All, Ok, Err, refl, sym, ap, ap₂, ◌∙◌, subst, append_assoc, arith}
+use Rattle.std.proofs.Common.{ℕ, ◌≡◌, ◌<◌, ◌+◌, suc, length, take, drop, get_or, map, add-one, List, [], ◌∷◌, ◌++◌, All, Result, Ok, Err, inl, inr, refl, sym, ap, ap₂, ◌∙◌, subst, append_assoc, arith}
 use Rattle.std.proofs.Math.Seq.{take-suc}
 use Rattle.std.proofs.lemmas.List.{take-append-drop, map-append}
 use Rattle.std.proofs.lemmas.List.Elements.{All-nil, All-cons, All-append}
 use Rattle.answers.specs.Answers.{IsSingle}
+use Rattle.answers.specs.Answered.{IsAnswered}
+use Rattle.lists.proofs.DeniedLemmas.{all_or_first}
 use Rattle.frac128.specs.Steps.{Step, StepFits, IsFirstUnfit}
 use Rattle.frac128.specs.FirstUnfit.{StepsFit, IsFirstUnfitOf, all_fit, all_steps_fit}
 
@@ -77,3 +79,24 @@ module _ {X : Type 0} (steps : X → List Step) (xs : List X) (k : ℕ) (x : X) 
   pub made_next : {Y : Type 0} (f : X → Y) (made new : List Y) (y : Y) → made ≡ map f (take k xs) → y ≡ f x → new ≡ made ++ y ∷ [] → new ≡ map f (take (k + 1) xs)
   made_next f made new y e g n =
       n ∙ ap₂ (λ a b. a ++ b ∷ []) e g ∙ sym (map-append f (take k xs) (x ∷ [])) ∙ ap (map f) (sym taken) ∙ ap (λ n. map f (take n xs)) (sym (add-one k))
+
+-- ---- there is an answer
+-- steps all fit, or there is the first that does not
+pub all_steps_fit-answered : (steps : List Step) → IsAnswered (all_steps_fit steps)
+all_steps_fit-answered steps none =
+    all_or_first StepFits steps (λ found. elim found [
+      | inl fit ↦ none (Ok tt) fit
+      | inr first ↦ none (Err first.1) (record { before = first.0; following = first.2; is_there = first.3; earlier_fit = first.4; does_not_fit = first.5 })
+    ])
+
+-- the steps of all things fit, or there is the first with one that does not
+pub all_fit-answered : {X : Type 0} (steps : X → List Step) (xs : List X) → IsAnswered (all_fit steps xs)
+all_fit-answered {X} steps xs none =
+    all_or_first (StepsFit steps) xs (λ found. elim found [
+      | inl fit ↦ none (Ok tt) fit
+      | inr first ↦ all_steps_fit-answered (steps first.1) (by first.1 first.0 first.2 first.3 first.4 first.5)
+    ])
+  where
+    by : (x : X) (before after : List X) → xs ≡ before ++ x ∷ after → All (StepsFit steps) before → ¬ (StepsFit steps x) → (answer : Result (Unit {0}) Step) → ¬ (all_steps_fit (steps x) answer)
+    by x before after at earlier fails (Ok _) fit = fails fit
+    by x before after at earlier fails (Err step) first = none (Err (x, step)) (record { before = before; after = after; is_there = at; earlier_fit = earlier; first_unfit = first })

@@ -1,3 +1,5 @@
+pub mod AnsweredCommandLemmas
+pub mod AnsweredGameLemmas
 pub mod CheckContentLemmas
 pub mod CheckTextLemmas
 pub mod CheckedLineLemmas

@@ -1,7 +1,8 @@
 // The top call.
-ghost use Rattle.std.specs.Prelude.{◌≡◌, ℕ, ◌<◌, List, None, Some, map, string_bytes};
+ghost use Rattle.std.specs.Prelude.{◌≡◌, ℕ, ◌<◌, List, None, Ok, Some, map, string_bytes};
 ghost use Rattle.std.specs.Result.{result_err};
 ghost use Rattle.answers.specs.Answers.{map_ok, IsSingle};
+ghost use Rattle.answers.specs.Answered.{IsAnswered};
 ghost use Rattle.outside.specs.Inputs.{InputName};
 ghost use Rattle.words.specs.Words.{Command, command_of, command_from, IsWithinRanges};
 ghost use Rattle.gambit_tools.specs.Seen.{outside, seen};
@@ -22,17 +23,22 @@ use crate::mixed::{enummixed, enummixed_texts_are_extreme};
 use crate::output::write_text;
 use crate::pure::enumpure;
 use enummixed::pairs_are_as_many_as_extreme_equilibria;
+use game_core::trees_are_game_trees;
 use ne_checker::{
-    table_checks_are_single, table_checks_tell_equilibria, tree_checks_are_single,
-    tree_checks_tell_equilibria,
+    table_checks_are_answered, table_checks_are_single, table_checks_tell_equilibria,
+    tree_checks_are_answered, tree_checks_are_single, tree_checks_tell_equilibria,
 };
 use outside::{Gate, Inputs, Sink};
-use perfect_recall::recalls_are_single;
+use perfect_recall::{recalls_are_answered, recalls_are_single};
+use reduced_form::forms_are_answered;
 use refusals::Refusal;
 use std::alloc::Global;
 use std::marker::Sync;
 use std::thread::Threads;
-use two_player_tools::{lcp_texts_are_equilibria, lp_texts_are_solutions, solutions_are_single};
+use two_player_tools::{
+    lcp_texts_are_equilibria, lp_texts_are_solutions, solutions_are_answered, solutions_are_single,
+    strategic_forms_are_answered,
+};
 use words::{Settings, read_settings};
 
 // Reads the inputs that the settings name, and computes the text. Each tool has an arm.
@@ -206,6 +212,20 @@ pub fn answers_are_single()
     recalls_are_single();
     table_checks_are_single();
     tree_checks_are_single();
+}
+
+/// The contents of a command's inputs have an answer.
+pub fn contents_are_answered()
+    ensures { (words : List (List ℕ)) (command : Command) (contents : List (List ℕ))
+        → command_from words ≡ Ok command → IsAnswered (answer_of command contents) }
+{
+    trees_are_game_trees();
+    recalls_are_answered();
+    forms_are_answered();
+    strategic_forms_are_answered();
+    solutions_are_answered();
+    table_checks_are_answered();
+    tree_checks_are_answered();
 }
 
 /// The step that a refusal names does not fit 128 bits.

@@ -1,3 +1,4 @@
+pub mod AnsweredLimitLemmas
 pub mod DrawLemmas
 pub mod FirstUseLemmas
 pub mod GameLemmas

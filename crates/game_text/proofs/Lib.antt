@@ -1,3 +1,4 @@
+pub mod AnsweredTokenLemmas
 pub mod ByteLemmas
 pub mod ByteRunLemmas
 pub mod DigitLemmas

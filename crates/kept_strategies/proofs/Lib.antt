@@ -1,3 +1,4 @@
+pub mod AnsweredFormLemmas
 pub mod EliminationLemmas
 mod KeptCellLemmas
 mod KeptFormLemmas

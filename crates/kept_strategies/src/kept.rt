@@ -1,5 +1,6 @@
 // The kept strategies of a table of two players, and the table over them.
 ghost use Rattle.std.specs.Prelude.{◌≡◌, ◌+◌, ◌*◌, ◌<◌, ◌≤◌, ℕ, [], ◌∷◌, All, IfOk, length, map, get_or, slice_index, sum};
+ghost use Rattle.answers.specs.Answered.{IsAnswered};
 ghost use Rattle.answers.specs.Answers.{Gives, IsSingle};
 ghost use Rattle.rational.specs.Sum.{entry_at};
 ghost use Rattle.extreme_equilibria.specs.KeptTable.{AreKeptLists, kept_table};
@@ -158,4 +159,9 @@ pub fn undominated(alloc: Global, table: &Table) -> Result<Kept, KeptStop>
 /// A table has one answer at most: the kept strategies of each player, or why they are not looked for.
 pub fn kept_forms_are_single()
     ensures { (table : GameTable) → IsSingle (kept_of table) }
+{}
+
+/// A table has an answer: the kept strategies of each player, or why they are not looked for.
+pub fn kept_forms_are_answered()
+    ensures { (table : GameTable) → IsTable table → IsAnswered (kept_of table) }
 {}

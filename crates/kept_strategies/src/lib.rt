@@ -16,5 +16,5 @@ mod elimination;
 mod kept;
 mod kept_stop;
 
-pub use kept::{Kept, kept_forms_are_single, undominated};
+pub use kept::{Kept, kept_forms_are_answered, kept_forms_are_single, undominated};
 pub use kept_stop::KeptStop;

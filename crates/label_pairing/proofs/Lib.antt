@@ -1,4 +1,5 @@
 pub mod AllPairLemmas
+pub mod AnsweredPairLemmas
 pub mod BlockLemmas
 pub mod PartnerLemmas
 pub mod RowLemmas

@@ -10,6 +10,7 @@
 //! A change here touches: `enummixed`, the limit on pairs and the counts of `make`.
 #![tactic(auto)]
 
+ghost use Rattle.label_pairing.specs.AnsweredLaws.{PairsAreAnswered};
 ghost use Rattle.label_pairing.specs.Laws.{PairsAreExactlyThose, PairsAreSingle};
 
 mod candidates;
@@ -30,4 +31,9 @@ pub fn pairs_are_exactly_those()
 /// Two lists have one answer at most: their list of pairs, or that there are too many.
 pub fn pairs_are_single()
     ensures { PairsAreSingle }
+{}
+
+/// Two lists have an answer: their list of pairs, or that there are too many.
+pub fn pairs_are_answered()
+    ensures { PairsAreAnswered }
 {}

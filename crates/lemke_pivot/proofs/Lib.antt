@@ -1,4 +1,6 @@
 pub mod AlikeTableauLemmas
+pub mod AnsweredPathLemmas
+pub mod AnsweredProblemLemmas
 pub mod BlockLemmas
 pub mod ComplementLemmas
 pub mod CostStepLemmas

@@ -62,7 +62,8 @@ record GoesOn (m : WholeTableau) (n r k : ℕ) : Type 0 where
   step : ReplacesExactly n before enters leaves after
 
 module _ (m : WholeTableau) (n r : ℕ) where
-  valid_at : (ss : List WholeTableau) (t : WholeTableau) (c : ℕ) → ExactPathTo m n r ss t c → IsTableau t
+  -- each tableau of a path is one
+  pub valid_at : (ss : List WholeTableau) (t : WholeTableau) (c : ℕ) → ExactPathTo m n r ss t c → IsTableau t
   valid_at [] t c p = p.1.is_tableau
   valid_at (s ∷ ss) t c p = p.4.fitting.is_tableau
 

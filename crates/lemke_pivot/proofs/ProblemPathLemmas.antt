@@ -209,7 +209,8 @@ least_kept k b r p h =
       last = λ i l g. elim (cases_eq i k) [ inl e ↦ subst (λ j. b r <ℚ b j) (sym e) h | inr d ↦ p.last i l (omega (arith, d)) ];
     }
 
-least_row : (n : ℕ) (b : ℕ → ℚ) → 0 < n → (r : ℕ) × IsLeastRow n b r
+-- some row is the last of those with the least right side
+pub least_row : (n : ℕ) (b : ℕ → ℚ) → 0 < n → (r : ℕ) × IsLeastRow n b r
 least_row zero b h = absurd (omega arith)
 least_row (suc zero) b h = (0, least_begins b)
 least_row (suc (suc n)) b h =

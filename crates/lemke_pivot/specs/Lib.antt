@@ -1,3 +1,4 @@
+pub mod AnsweredLaws
 pub mod Ends
 pub mod FormProblems
 pub mod Parts

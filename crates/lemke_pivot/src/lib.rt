@@ -1,7 +1,7 @@
 //! An equilibrium of a game with two players by complementary pivots.
 //!
 //! Callers may rely on: `problem` and `Lcp::solve` give the problem and the end of its path, of
-//! which there is at most one each: a solution or the first step that does not fit, and no ray;
+//! which there is one each, and only one: a solution or the first step that does not fit, and no ray;
 //! `solutions_solve_trees`.
 //! Definitions: `specs::Problems` has problems w = b + M z and that of two sides, `ProblemPaths`
 //! the path of complementary pivots, `FormProblems` what a form answers, `Ends` the end of a path;
@@ -24,8 +24,8 @@ mod system;
 
 pub use form_problem::problem;
 pub use laws::{
-    ends_are_single, problems_are_of_forms, problems_are_single, solutions_solve_tables,
-    solutions_solve_the_form, solutions_solve_trees,
+    ends_are_answered, ends_are_single, problems_are_answered, problems_are_of_forms,
+    problems_are_single, solutions_solve_tables, solutions_solve_the_form, solutions_solve_trees,
 };
 pub use lcp::{Lcp, Solution};
 pub use stop::LcpStop;

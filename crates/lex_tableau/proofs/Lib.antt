@@ -1,5 +1,8 @@
+pub mod AnsweredPivotLemmas
+pub mod AnsweredStartLemmas
 pub mod ColumnLemmas
 pub mod EntryLemmas
+pub mod MadeEntryLemmas
 pub mod PivotNumberLemmas
 pub mod RatioRowLemmas
 pub mod SignLemmas

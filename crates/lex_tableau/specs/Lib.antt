@@ -1,3 +1,4 @@
+pub mod AnsweredLaws
 pub mod Columns
 pub mod Entries
 pub mod Keys

@@ -12,6 +12,7 @@
 //! `enummixed`.
 #![tactic(auto)]
 
+ghost use Rattle.lex_tableau.specs.AnsweredLaws.{StartsAreAnswered};
 ghost use Rattle.lex_tableau.specs.Laws.{StartsAreSingle, TableauxAreDetermined};
 
 mod columns;
@@ -36,4 +37,9 @@ pub fn tableaux_are_determined()
 /// A system has at most one answer: its start, or the first step of its rows that does not fit.
 pub fn starts_are_single()
     ensures { StartsAreSingle }
+{}
+
+/// A system has an answer: its start, or the first step of its rows that does not fit.
+pub fn starts_are_answered()
+    ensures { StartsAreAnswered }
 {}

@@ -1,4 +1,6 @@
 pub mod AscendingNumberLemmas
+pub mod ChosenElementLemmas
+pub mod DeniedLemmas
 pub mod ElementLemmas
 pub mod ListedLemmas
 pub mod NumberLemmas

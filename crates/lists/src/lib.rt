@@ -8,7 +8,8 @@
 //! the index of a number in a list.
 //! Lemmas for callers: `proofs::OptionLemmas`, `ElementLemmas` (lists, their elements and members,
 //! and lists in an order), `AscendingNumberLemmas`, `ListedLemmas`, `NumberLemmas` and
-//! `OrderLemmas`. A lemma that names a word of another crate stands in that crate.
+//! `OrderLemmas`; `DeniedLemmas` and `ChosenElementLemmas`, on what cannot be denied of finitely many
+//! numbers and elements. A lemma that names a word of another crate stands in that crate.
 //! A change here touches: the order of reduced strategies and of choice lists, and what the readers
 //! of files take off their tokens.
 #![tactic(auto)]

@@ -1,3 +1,4 @@
+pub mod AnsweredCheckLemmas
 pub mod CheckLaws
 pub mod LineStepLemmas
 pub mod OneAnswerLaws

@@ -1,3 +1,4 @@
+pub mod AnsweredLaws
 pub mod CheckLaws
 pub mod LineChecks
 pub mod Lines

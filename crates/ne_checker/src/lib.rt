@@ -17,5 +17,10 @@ mod texts;
 mod tree_lines;
 
 pub use stops::CheckStop;
-pub use table_lines::{check_table_lines, table_checks_are_single, table_checks_tell_equilibria};
-pub use tree_lines::{check_tree_lines, tree_checks_are_single, tree_checks_tell_equilibria};
+pub use table_lines::{
+    check_table_lines, table_checks_are_answered, table_checks_are_single,
+    table_checks_tell_equilibria,
+};
+pub use tree_lines::{
+    check_tree_lines, tree_checks_are_answered, tree_checks_are_single, tree_checks_tell_equilibria,
+};

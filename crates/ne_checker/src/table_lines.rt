@@ -1,6 +1,7 @@
 // The check of lines with mixed profiles of a table.
 ghost use Rattle.answers.specs.Answers.{Gives, map_ok};
 ghost use Rattle.ne_checker.specs.CheckLaws.{TableChecksTell};
+ghost use Rattle.ne_checker.specs.AnsweredLaws.{TableChecksAreAnswered};
 ghost use Rattle.ne_checker.specs.LineChecks.{TableChecksAreSingle, table_check, table_line};
 ghost use Rattle.ne_checker.specs.declared.stops.CheckStop.TheVariants as stops;
 
@@ -11,7 +12,9 @@ use behaviour_profile::{profiles_are_single, tested_entries_are_profiles};
 use game_core::Table;
 use ne_printer::{first_line, read_line};
 use std::alloc::Global;
-use verdicts::{Mixed, TableVerdict, check_table, table_verdicts_find_equilibria};
+use verdicts::{
+    Mixed, TableVerdict, check_table, table_verdicts_exist, table_verdicts_find_equilibria,
+};
 
 // The text of the verdict on a line.
 fn table_line(alloc: Global, table: &Table, number: u64, line: &[u8]) -> Result<Vec<u8>, CheckStop>
@@ -72,6 +75,14 @@ pub fn table_checks_are_single()
     ensures { TableChecksAreSingle }
 {
     profiles_are_single();
+}
+
+/// A table and a text have an answer.
+pub fn table_checks_are_answered()
+    ensures { TableChecksAreAnswered }
+{
+    tested_entries_are_profiles();
+    table_verdicts_exist();
 }
 
 /// Each text tells of all lines: of an equilibrium that it is one, and else of the first player

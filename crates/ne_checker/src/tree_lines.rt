@@ -4,6 +4,7 @@ ghost use Rattle.game_core.specs.TreeGame.{game_of_tree};
 ghost use Rattle.perfect_recall.specs.Found.{IsRecallOf};
 ghost use Rattle.verdicts.specs.TreeScratches.{IsScratchOf};
 ghost use Rattle.ne_checker.specs.CheckLaws.{TreeChecksTell};
+ghost use Rattle.ne_checker.specs.AnsweredLaws.{TreeChecksAreAnswered};
 ghost use Rattle.ne_checker.specs.LineChecks.{TreeChecksAreSingle, tree_check, tree_line};
 ghost use Rattle.ne_checker.specs.declared.stops.CheckStop.TheVariants as stops;
 
@@ -16,7 +17,8 @@ use ne_printer::{first_line, read_line};
 use perfect_recall::Recall;
 use std::alloc::Global;
 use verdicts::{
-    Scratch, TreeVerdict, check_tree, tree_verdicts_are_single, tree_verdicts_find_equilibria,
+    Scratch, TreeVerdict, check_tree, tree_verdicts_are_single, tree_verdicts_exist,
+    tree_verdicts_find_equilibria,
 };
 
 // The text of the verdict on a line.
@@ -97,6 +99,15 @@ pub fn tree_checks_are_single()
 {
     profiles_are_single();
     tree_verdicts_are_single();
+}
+
+/// A tree in which all players recall and a text have an answer.
+pub fn tree_checks_are_answered()
+    ensures { TreeChecksAreAnswered }
+{
+    trees_are_game_trees();
+    tested_entries_are_behaviours();
+    tree_verdicts_exist();
 }
 
 /// Each text on a tree in which all players recall tells of all lines: of an equilibrium that it

@@ -1,3 +1,4 @@
+pub mod AnsweredLineLemmas
 pub mod EntryListLemmas
 pub mod FractionLemmas
 pub mod LineCutLemmas

@@ -19,7 +19,9 @@ ghost use Rattle.ne_printer.specs.Entries.{entry_text, entries_text, numbers_lin
 
 use answers::Memory;
 use frac128::Frac;
-pub use reading::{LineStop, first_line, lines_are_single, lines_read_back, read_line};
+pub use reading::{
+    LineStop, first_line, lines_are_answered, lines_are_single, lines_read_back, read_line,
+};
 use std::alloc::Global;
 
 /// The bytes of the text of a fraction.

@@ -1,9 +1,10 @@
 // Lines of equilibria, read back.
-ghost use Rattle.std.specs.Prelude.{◌≡◌, ◌≢◌, ◌-◌, ◌<◌, ◌≤◌, ◌^◌, ℕ, [], ◌++◌, ◌∷◌, ◌↔◌, IsTrue, length, pos, MatchOption};
+ghost use Rattle.std.specs.Prelude.{◌≡◌, ◌≢◌, ◌-◌, ◌<◌, ◌≤◌, ◌^◌, ℕ, List, [], ◌++◌, ◌∷◌, ◌↔◌, IsTrue, length, pos, MatchOption};
 ghost use Rattle.std.specs.Char.{is_ascii_digit};
 ghost use Rattle.std.specs.List.{All, list_all};
 ghost use Rattle.std.specs.Str.Parse.{digits_value};
 ghost use Rattle.answers.specs.Answers.{Gives, map_ok};
+ghost use Rattle.answers.specs.Answered.{IsAnswered};
 ghost use Rattle.rational.specs.Rational.{ℚ, frac};
 ghost use Rattle.ne_printer.specs.ReadLines.{IsShortNumeral, IsWholeNumber, IsFraction, entries_in, line_in, LinesAreSingle, LinesReadBack};
 ghost use Rattle.ne_printer.specs.TextLines.{IsFirstLine, lines_of};
@@ -167,6 +168,11 @@ pub fn read_line(alloc: Global, line: &[u8]) -> Result<Vec<Frac>, LineStop>
 /// A line has at most one answer: its entries, or that it has none.
 pub fn lines_are_single()
     ensures { LinesAreSingle }
+{}
+
+/// A line has an answer.
+pub fn lines_are_answered()
+    ensures { (line : List ℕ) → IsAnswered (line_in line) }
 {}
 
 /// The line of entries, without its line feed, is read as they are.

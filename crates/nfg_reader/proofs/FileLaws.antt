@@ -1,6 +1,7 @@
 -- What is read is the table of a file, and such a file is read.
 use Rattle.std.proofs.Common.{◌≡◌, ℕ, zero, suc, ◌*◌, ◌≤◌, ◌<◌, List, [], ◌∷◌, ◌++◌, length, map, get_or, Some, None, ◌⊎◌, inl, inr, refl, sym, ap, ◌∙◌, subst, append_assoc, length-append, arith}
 use Rattle.std.proofs.Math.Nat.{mul-suc}
+use Rattle.std.proofs.lemmas.Bool.{cases_lt}
 use Rattle.std.proofs.lemmas.List.{append-nil, length-replicate}
 use Rattle.std.proofs.lemmas.List.Elements.{All-nil, All-cons}
 use Rattle.std.specs.Prelude.{All}
@@ -177,3 +178,13 @@ finished tokens front payoffs players count e p c few r =
 -- a table within the limit does not pass it
 pub within : (tokens : List Token) (table : GameTable) → IsTableFile tokens table → IsTable table → ¬ (HasTooManyPayoffs tokens)
 within tokens table f t = not_too_many tokens table f (omega (arith, t.payoffs_of_each, t.few_payoffs))
+
+-- a file of a table that has not too many payoffs is that of a table
+pub file_is_table : (tokens : List Token) (table : GameTable) → IsTableFile tokens table → ¬ (HasTooManyPayoffs tokens) → IsTable table
+file_is_table tokens table f few =
+    let p = parts_again tokens table f in
+    let front : FrontPart × List Token = (record { title = table.title; players = table.players; strategies = table.strategies }, p.rest) in
+    elim (cases_lt most_payoffs (length table.players * profiles front.0)) [
+      | inl long ↦ absurd (few (too_many_next tokens front p.is_front long))
+      | inr short ↦ read_is_table tokens front table.payoffs p.is_front p.is_rest (omega (arith, short))
+    ]

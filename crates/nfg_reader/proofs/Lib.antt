@@ -1,3 +1,4 @@
+pub mod AnsweredTableLemmas
 pub mod BodyLaws
 pub mod CountedNameLemmas
 pub mod FaultKindLemmas

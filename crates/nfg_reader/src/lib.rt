@@ -1,7 +1,7 @@
 //! Files of games in table form, read from their tokens.
 //!
 //! Callers may rely on: `read` gives the table of a file; a fault with its kind and offset, or the
-//! limit on payoffs, comes exactly where the tokens are no file; tokens have at most one answer.
+//! limit on payoffs, comes exactly where the tokens are no file; tokens have an answer, and only one.
 //! Definitions: `specs::TableFile` has the grammar, `specs::Faults` the faults of tokens that are
 //! no file, `specs::Stops` what tokens answer (`table_in`), `specs::Texts` how a fault's kind is
 //! displayed.
@@ -17,5 +17,5 @@ mod strategies;
 
 pub use reading::{
     NfgFault, NfgKind, NfgStop, faults_are_single, files_are_read, files_have_one_table, read,
-    tables_are_single,
+    tables_are_answered, tables_are_single,
 };

@@ -1,6 +1,7 @@
 // Reads a table from the tokens of a file.
 ghost use Rattle.std.specs.Prelude.{ℕ, ◌≡◌, ◌⊎◌, List, Ok, IfOk};
 ghost use Rattle.answers.specs.Answers.{Gives, IsSingle};
+ghost use Rattle.answers.specs.Answered.{IsAnswered};
 ghost use Rattle.game_core.specs.Table.{GameTable, IsTable};
 ghost use Rattle.game_core.specs.TokenList.{TokenList, bare};
 ghost use Rattle.game_core.specs.declared.token.Token.{Token as token};
@@ -142,6 +143,11 @@ pub fn read(alloc: Global, tokens: &Tokens) -> Result<Table, NfgStop>
 /// The tokens of a source have one answer at most, with the kind and the offset of a fault.
 pub fn tables_are_single()
     ensures { (tokens : TokenList) → IsSingle (table_in tokens) }
+{}
+
+/// The tokens of a source have an answer.
+pub fn tables_are_answered()
+    ensures { (tokens : TokenList) → IsAnswered (table_in tokens) }
 {}
 
 /// The tokens of a source have one fault at most; they have none where they are a file of a table, and one where they

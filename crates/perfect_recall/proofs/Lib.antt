@@ -1,3 +1,4 @@
+pub mod AnsweredRecallLemmas
 pub mod HistoryLemmas
 mod LastEdgeLemmas
 pub mod MemberLemmas

@@ -1,6 +1,7 @@
 // Whether the players recall.
 ghost use Rattle.std.specs.Prelude.{◌≡◌, ◌<◌, ◌+◌, ℕ, length, slice_index, IfOk, MatchOption, Some};
 ghost use Rattle.answers.specs.Answers.{Gives, IsSingle};
+ghost use Rattle.answers.specs.Answered.{IsAnswered};
 ghost use Rattle.game_theory.specs.Recall.{HasPerfectRecall, HaveOneHistory};
 ghost use Rattle.game_core.specs.Tree.{GameTree, IsGameTree};
 ghost use Rattle.game_core.specs.TreeGame.{game_of_tree};
@@ -157,6 +158,13 @@ pub fn find_recall(alloc: Global, tree: &Tree) -> Result<Recall, RecallStop>
 /// A tree has one answer at most: its recall, or the player who forgets first.
 pub fn recalls_are_single()
     ensures { (t : GameTree) → IsGameTree t → IsSingle (recall_of t) }
+{
+    trees_are_game_trees();
+}
+
+/// Every tree has an answer.
+pub fn recalls_are_answered()
+    ensures { (t : GameTree) → IsGameTree t → IsAnswered (recall_of t) }
 {
     trees_are_game_trees();
 }

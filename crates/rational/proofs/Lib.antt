@@ -17,6 +17,7 @@ pub mod PartLemmas
 pub mod RationalRing
 pub mod Ring
 pub mod Rules
+pub mod SomeExtremeLemmas
 pub mod SumLemmas
 pub mod SumRelationLemmas
 pub mod TestLemmas

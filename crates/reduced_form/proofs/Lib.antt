@@ -1,4 +1,5 @@
 mod ActionTextLemmas
+pub mod AnsweredFormLemmas
 mod CellRowLemmas
 pub mod FormAnswerLemmas
 pub mod FormCountLemmas

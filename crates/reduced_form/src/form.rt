@@ -1,8 +1,9 @@
 // The reduced strategic form.
 ghost use Rattle.std.specs.Prelude.{◌≡◌, map, IfOk};
 ghost use Rattle.answers.specs.Answers.{Gives, IsSingle};
+ghost use Rattle.answers.specs.Answered.{IsAnswered};
 ghost use Rattle.game_core.specs.Table.{IsTable};
-ghost use Rattle.game_core.specs.Tree.{GameTree};
+ghost use Rattle.game_core.specs.Tree.{GameTree, IsGameTree};
 ghost use Rattle.game_core.specs.TreeGame.{game_of_tree};
 ghost use Rattle.reduced_strategies.specs.StrategicForm.{AreStrategies};
 ghost use Rattle.reduced_form.specs.declared.stop.ReduceStop.TheVariants as stops;
@@ -124,3 +125,10 @@ pub fn reduce(alloc: Global, tree: &Tree) -> Result<Reduced, ReduceStop>
 pub fn forms_are_single()
     ensures { (tree : GameTree) → IsSingle (reduced_form_of tree) }
 {}
+
+/// Every tree has an answer.
+pub fn forms_are_answered()
+    ensures { (tree : GameTree) → IsGameTree tree → IsAnswered (reduced_form_of tree) }
+{
+    trees_are_game_trees();
+}

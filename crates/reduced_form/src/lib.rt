@@ -18,6 +18,6 @@ mod names;
 mod stop;
 mod strategies;
 
-pub use form::{Reduced, forms_are_single, reduce};
+pub use form::{Reduced, forms_are_answered, forms_are_single, reduce};
 pub use stop::ReduceStop;
 pub use strategies::Strategies;

@@ -1,3 +1,4 @@
+pub mod AnsweredPolytopeLemmas
 pub mod EnumerableLemmas
 pub mod LeastLemmas
 pub mod PolytopeLemmas

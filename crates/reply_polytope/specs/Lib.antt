@@ -1,3 +1,4 @@
+pub mod AnsweredLaws
 pub mod Laws
 pub mod Polytopes
 pub mod Shapes

@@ -18,6 +18,6 @@ mod stop;
 mod systems;
 mod table_systems;
 
-pub use laws::{polytopes_are_single, systems_are_the_polytopes};
+pub use laws::{polytopes_are_answered, polytopes_are_single, systems_are_the_polytopes};
 pub use stop::PolyStop;
 pub use table_systems::polytopes;

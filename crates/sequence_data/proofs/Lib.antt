@@ -1,3 +1,4 @@
+pub mod AnsweredFormLemmas
 pub mod CellSumLemmas
 pub mod GainLemmas
 mod GatheredLeafLemmas

@@ -19,7 +19,7 @@ use Rattle.sequence_form.specs.Sequences.{start_side, tree_side}
 
 -- ---- what has a form
 -- two players are what is not refused
-are_two : (n : ℕ) → of_two_players n (Ok tt) → n ≡ 2
+pub are_two : (n : ℕ) → of_two_players n (Ok tt) → n ≡ 2
 are_two n h = elim (cases_eq n 2) [ inl e ↦ e | inr differ ↦ absurd (h differ) ]
 
 -- a tree with a form has two players

@@ -1,3 +1,4 @@
+pub mod AnsweredFormLemmas
 mod BuiltFormLemmas
 pub mod FormLemmas
 pub mod KeptFormLemmas

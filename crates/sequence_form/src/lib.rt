@@ -10,9 +10,10 @@
 //! A change here touches: `behaviour_profile`, and the stages and laws of `lp` and `lcp`.
 #![tactic(auto)]
 
+ghost use Rattle.answers.specs.Answered.{IsAnswered};
 ghost use Rattle.answers.specs.Answers.{IsSingle};
-ghost use Rattle.game_core.specs.Table.{GameTable};
-ghost use Rattle.game_core.specs.Tree.{GameTree};
+ghost use Rattle.game_core.specs.Table.{GameTable, IsTable};
+ghost use Rattle.game_core.specs.Tree.{GameTree, IsGameTree};
 ghost use Rattle.sequence_form.specs.Forms.{table_form, tree_form};
 ghost use Rattle.sequence_form.specs.Laws.{
   TableFormsPayPlans,
@@ -39,9 +40,19 @@ pub fn tree_forms_are_single()
     ensures { (t : GameTree) → IsSingle (tree_form t) }
 {}
 
+/// A tree has an answer: its form, or the reason why it has none.
+pub fn tree_forms_are_answered()
+    ensures { (t : GameTree) → IsGameTree t → IsAnswered (tree_form t) }
+{}
+
 /// A table has at most one answer: its form, or the reason why it has none.
 pub fn table_forms_are_single()
     ensures { (t : GameTable) → IsSingle (table_form t) }
+{}
+
+/// A table has an answer: its form, or the reason why it has none.
+pub fn table_forms_are_answered()
+    ensures { (t : GameTable) → IsTable t → IsAnswered (table_form t) }
 {}
 
 /// The form of a tree is its sequence form within its bounds.

@@ -188,7 +188,7 @@ some-indices numbers bound within = subst (λ xs. (indices : List (Option ℕ)) 
         (set before.0 k (Some (length (take i numbers))), subst (λ xs. AreIndicesIn xs bound (set before.0 k (Some (length (take i numbers))))) longer (indices-push (take i numbers) bound k before.0 (within i 0 below) before.1))
 
 -- an increasing list of numbers below a bound is no longer than that
-few-below : (numbers : List ℕ) (bound : ℕ) → IsStrictlyIncreasing numbers → ((k : ℕ) → Contains numbers k → k < bound) → length numbers ≤ bound
+pub few-below : (numbers : List ℕ) (bound : ℕ) → IsStrictlyIncreasing numbers → ((k : ℕ) → Contains numbers k → k < bound) → length numbers ≤ bound
 few-below numbers bound rises within = elim (cases_lt bound (length numbers)) [
   | inl more ↦ absurd (omega (arith, at-least bound more, within (get_or numbers bound 0) (Contains-get_or numbers bound 0 more)))
   | inr few ↦ few

@@ -19,4 +19,5 @@ pub mod CutWorthLemmas
 pub mod MemberListLemmas
 pub mod RootLemmas
 pub mod RootTestLemmas
+pub mod SomeCutLemmas
 pub mod SpanLemmas

@@ -1,3 +1,7 @@
+mod AnsweredCutLemmas
+pub mod AnsweredFormLemmas
+mod AnsweredSolutionLemmas
+pub mod AnsweredToolLemmas
 pub mod ConstantSumLemmas
 pub mod CutAnswerLemmas
 pub mod FormSingleLemmas

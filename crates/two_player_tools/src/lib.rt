@@ -3,8 +3,9 @@
 //!
 //! Callers may rely on: `lp_text` and `lcp_text` give the text that is defined, or the refusal that
 //! the first failing stage gives; `two_players` refuses other games; `lp_texts_are_solutions` and
-//! `lcp_texts_are_equilibria` say what each text is, and `solutions_are_single` that there is at most
-//! one answer, as `strategic_forms_are_single` of the strategic form.
+//! `lcp_texts_are_equilibria` say what each text is, `solutions_are_single` that there is at most one
+//! answer, and `solutions_are_answered` that there is one, as `strategic_forms_are_single` and
+//! `strategic_forms_are_answered` of the strategic form.
 //! Definitions: `specs::StrategicForms` has the strategic form that all tools take; `TwoPlayers` says
 //! which sequence form a tool works on, `Lp` and `Lcp` what each answers, `Entries` the line of two
 //! plans, `Perfect` what they answer of a tree that is solved subgame by subgame; `LpLaws`, `LcpLaws`
@@ -15,6 +16,7 @@
 #![tactic(auto)]
 
 ghost use Rattle.std.specs.Prelude.{Bool};
+ghost use Rattle.answers.specs.Answered.{IsAnswered};
 ghost use Rattle.answers.specs.Answers.{IsSingle};
 ghost use Rattle.game_core.specs.declared.game.Game.{Game};
 ghost use Rattle.two_player_tools.specs.GameTypes.{IsGame};
@@ -43,6 +45,11 @@ pub fn strategic_forms_are_single()
     ensures { (game : Game) → IsSingle (strategic_form game) }
 {}
 
+/// Each game has its strategic form, or a reason why it has none.
+pub fn strategic_forms_are_answered()
+    ensures { (game : Game) → IsGame game → IsAnswered (strategic_form game) }
+{}
+
 /// A game has at most one answer by each tool.
 pub fn solutions_are_single()
     ensures lp { (strategic prices perfect : Bool) (game : Game) → IsGame game
@@ -53,5 +60,17 @@ pub fn solutions_are_single()
     trees_are_game_trees();
     sets_are_numbered_by_first_nodes();
     recalls_are_single();
+    sets_stand_in_one_cut();
+}
+
+/// Each game has an answer by each tool.
+pub fn solutions_are_answered()
+    ensures lp { (strategic prices perfect : Bool) (game : Game) → IsGame game
+        → IsAnswered (lp_tool strategic prices perfect game) }
+    ensures lcp { (strategic perfect : Bool) (game : Game) → IsGame game
+        → IsAnswered (lcp_tool strategic perfect game) }
+{
+    trees_are_game_trees();
+    sets_are_numbered_by_first_nodes();
     sets_stand_in_one_cut();
 }

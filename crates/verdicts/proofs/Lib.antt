@@ -1,6 +1,7 @@
 pub mod AlikeBehaviourLemmas
 pub mod AlikeChoiceLemmas
 pub mod AlikeVerdictLemmas
+pub mod AnsweredVerdictLemmas
 pub mod ChoiceLemmas
 pub mod FoundReplyLemmas
 pub mod SameEntryLemmas
@@ -16,8 +17,8 @@ pub mod TreeMemberLemmas
 pub mod TreeNowStepLemmas
 pub mod TreeOwnSetLemmas
 pub mod TreeReplyLemmas
-pub mod TreeReplyStepLemmas
 pub mod TreeReplyPartLemmas
+pub mod TreeReplyStepLemmas
 pub mod TreeSingleLemmas
 pub mod TreeSumLemmas
 pub mod TreeVerdictLaws

@@ -1,3 +1,4 @@
+pub mod AnsweredLaws
 pub mod BehaviourPayoffs
 pub mod TableChecks
 pub mod TableLaws

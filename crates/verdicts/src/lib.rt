@@ -30,6 +30,10 @@ pub use mixed::Mixed;
 pub use payoffs::{behaviour_payoffs, behaviour_payoffs_are_single};
 pub use scratch::Scratch;
 pub use tables::{
-    TableVerdict, check_table, table_verdicts_are_single, table_verdicts_find_equilibria,
+    TableVerdict, check_table, table_verdicts_are_single, table_verdicts_exist,
+    table_verdicts_find_equilibria,
 };
-pub use trees::{TreeVerdict, check_tree, tree_verdicts_are_single, tree_verdicts_find_equilibria};
+pub use trees::{
+    TreeVerdict, check_tree, tree_verdicts_are_single, tree_verdicts_exist,
+    tree_verdicts_find_equilibria,
+};

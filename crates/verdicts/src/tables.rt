@@ -3,6 +3,7 @@ ghost use Rattle.std.specs.Prelude.{◌≡◌, ◌<◌, ◌++◌, List, length, 
 ghost use Rattle.rational.specs.Rational.{ℚ, ◌+ℚ◌, ◌*ℚ◌};
 ghost use Rattle.game_core.specs.Table.{strategy_counts};
 ghost use Rattle.frac128.specs.Steps.{Step, StepsGive};
+ghost use Rattle.verdicts.specs.AnsweredLaws.{TableVerdictsExist};
 ghost use Rattle.verdicts.specs.TableLaws.{TableVerdictsAreSingle, TableVerdictsFindEquilibria};
 ghost use Rattle.verdicts.specs.TableChecks.{table_verdict, weighed_steps};
 
@@ -303,6 +304,11 @@ pub fn check_table(table: &Table, mixed: &Mixed) -> TableVerdict
 /// A table and the entries of a profile have at most one verdict.
 pub fn table_verdicts_are_single()
     ensures { TableVerdictsAreSingle }
+{}
+
+/// A mixed profile of a table has a verdict.
+pub fn table_verdicts_exist()
+    ensures { TableVerdictsExist }
 {}
 
 /// Verdicts of tables tell equilibria. A better strategy is the first player's that has one, and

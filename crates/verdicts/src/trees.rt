@@ -4,6 +4,7 @@ ghost use Rattle.perfect_recall.specs.Found.{IsRecallOf};
 ghost use Rattle.verdicts.specs.TreeScratches.{IsScratchOf, reply_of};
 ghost use Rattle.verdicts.specs.TreeVerdicts.{tree_verdict};
 ghost use Rattle.behaviour_profile.specs.EntryStarts.{AreBehaviourEntries};
+ghost use Rattle.verdicts.specs.AnsweredLaws.{TreeVerdictsExist};
 ghost use Rattle.verdicts.specs.TreeVerdictLaws.{
   TreeVerdictsAreSingle,
   TreeVerdictsFindEquilibria,
@@ -78,6 +79,14 @@ pub fn check_tree(
 /// one reply.
 pub fn tree_verdicts_are_single()
     ensures { TreeVerdictsAreSingle }
+{
+    trees_are_game_trees();
+    sets_are_numbered_by_first_nodes();
+}
+
+/// Behaviour on a tree in which all players recall has a verdict.
+pub fn tree_verdicts_exist()
+    ensures { TreeVerdictsExist }
 {
     trees_are_game_trees();
     sets_are_numbered_by_first_nodes();

@@ -1,5 +1,6 @@
 pub mod DeterminedRowLemmas
 pub mod FittingStepLemmas
+pub mod MadeRowLemmas
 pub mod PlaceStepLemmas
 pub mod QuotientLemmas
 pub mod RowFitLemmas

@@ -1,3 +1,6 @@
+pub mod AnsweredPathLemmas
+pub mod AnsweredPlanLemmas
+pub mod AnsweredProgramLemmas
 pub mod BoundedObjectiveLemmas
 pub mod DeterminedPathLemmas
 pub mod EndPriceLemmas

@@ -33,7 +33,8 @@ step_same m n o v a b =
     pivot_once m n o b.row b.column a.fitting.is_tableau b.fitting.is_tableau (subst₂ (λ x y. IsPivotOf m x y n) r c a.fitting.pivot) b.fitting.pivot
 
 -- ---- the path
-valid_at : (first n : WholeTableau) (k : ℕ) → IsTableau first → LeadsTo first k n → IsTableau n
+-- what a path leads to is a tableau
+pub valid_at : (first n : WholeTableau) (k : ℕ) → IsTableau first → LeadsTo first k n → IsTableau n
 valid_at first n zero v e = subst IsTableau (sym e) v
 valid_at first n (suc k) v w = w.1.1.fitting.is_tableau
 

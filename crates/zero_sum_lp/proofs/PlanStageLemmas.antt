@@ -50,10 +50,11 @@ module _ (is_plan : List ℚ → Type 0) (steps : List ℚ → List Step) where
 weights_once : (d : Side) (a b : List ℚ) → length a ≡ sequences d → length b ≡ sequences d → Agree d (entry_at a) (entry_at b) → a ≡ b
 weights_once d a b p q e = ext_get_or zero_ℚ a b (p ∙ sym q) (λ i l. e i (subst (λ n. i < n) p l))
 
-abbrev weights_of : Side → (ℕ → ℚ) → List ℚ
+-- the first weights, as such a list
+abbrev pub weights_of : Side → (ℕ → ℚ) → List ℚ
 weights_of d z = map z (range_with_len 0 (sequences d))
 
-weights_there : (d : Side) (z : ℕ → ℚ) → Agree d z (entry_at (weights_of d z))
+pub weights_there : (d : Side) (z : ℕ → ℚ) → Agree d z (entry_at (weights_of d z))
 weights_there d z q l = sym (get_or-map-range_with_len z 0 (sequences d) q q zero_ℚ l (omega arith))
 
 module _ (d : Side) (o : IsOrderedSide d) where

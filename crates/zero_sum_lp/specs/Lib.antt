@@ -1,3 +1,4 @@
+pub mod AnsweredLaws
 pub mod Ends
 pub mod EnteringColumns
 pub mod ExactPaths

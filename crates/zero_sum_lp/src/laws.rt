@@ -1,5 +1,6 @@
 // What the answers prove. The functions do nothing: the contract of each is a law, so that a check
 // proves it.
+ghost use Rattle.zero_sum_lp.specs.AnsweredLaws.{EndsAreAnswered, PlansAreAnswered, ProgramsAreAnswered};
 ghost use Rattle.zero_sum_lp.specs.Ends.{EndsAreSingle};
 ghost use Rattle.zero_sum_lp.specs.FormPrograms.{ProgramsAreSingle};
 ghost use Rattle.zero_sum_lp.specs.PlanStops.{PlansAreSingle};
@@ -30,12 +31,27 @@ pub fn programs_are_single()
     ensures { ProgramsAreSingle }
 {}
 
+/// A form has an answer: its program, or the reason why it has none.
+pub fn programs_are_answered()
+    ensures { ProgramsAreAnswered }
+{}
+
 /// A program's path has at most one end: the optimum, or the first step that does not fit.
 pub fn ends_are_single()
     ensures { EndsAreSingle }
 {}
 
+/// A program's path has an end: the optimum, or the first step that does not fit.
+pub fn ends_are_answered()
+    ensures { EndsAreAnswered }
+{}
+
 /// An optimum has at most one answer: both plans, or the first step that does not fit.
 pub fn plans_are_single()
     ensures { PlansAreSingle }
+{}
+
+/// An optimum has an answer: both plans, or the first step that does not fit.
+pub fn plans_are_answered()
+    ensures { PlansAreAnswered }
 {}

@@ -1,7 +1,7 @@
 //! The equilibrium of a constant-sum game by one linear program of two players' realisation plans.
 //!
 //! Callers may rely on: `program` and `Lp::solve` give the program and the end of its path, of which
-//! there is at most one each, in at most 2^n pivots for variables below n;
+//! there is one each, and only one, in at most 2^n pivots for variables below n;
 //! `optimal_plans_prove_the_value`.
 //! Definitions: `specs::Paths` has linear programs and the path of the simplex method, `Programs`
 //! the program of plans, `Systems` its rows, `Plans` plans made of raw weights, `FormPrograms` what
@@ -31,8 +31,9 @@ mod weights;
 
 pub use form_program::program;
 pub use laws::{
-    ends_are_single, optimal_plans_prove_the_value, optimal_plans_solve_tables,
-    optimal_plans_solve_trees, plans_are_single, programs_are_of_forms, programs_are_single,
+    ends_are_answered, ends_are_single, optimal_plans_prove_the_value, optimal_plans_solve_tables,
+    optimal_plans_solve_trees, plans_are_answered, plans_are_single, programs_are_answered,
+    programs_are_of_forms, programs_are_single,
 };
 pub use lp::Lp;
 pub use optimum::Optimum;
