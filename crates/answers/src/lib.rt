@@ -57,7 +57,8 @@ pub trait Reasons<R, E, Y> {
     ghost stage: { Answer R Y };
 }
 
-/// A stage with at most one answer has so when its reasons are told by refusals, and its call gives it.
+/// A stage with at most one answer has so when its reasons are told by refusals, and its call gives
+/// it.
 pub fn reasons_are_told<R, E, Y, S: Reasons<R, E, Y>>()
     ensures single { IsSingle S.stage → IsSingle (refused_by S.told S.stage) }
     ensures given { (answer : Result Y R) → Gives S.memory S.stage answer

@@ -159,8 +159,8 @@ fn piece<G: Gate>(
 // bases, in no stated order.
 #[derive(Drop)]
 pub(crate) struct Made {
-    tableaux: Vec<Tableau>,
-    found: Vec<FoundPivot>,
+    pub tableaux: Vec<Tableau>,
+    pub found: Vec<FoundPivot>,
 }
 
 // Adds a tableau, its pivots and its vertex to those of its level.
@@ -377,12 +377,13 @@ pub(crate) fn children<R: Threads + Sync, G: Gate, L: Ledger>(
     expansion: &Expansion,
     vertices: &mut Vec<Vertex>,
     pivots: &mut PivotCount<L>,
-) -> Result<(Vec<Tableau>, Vec<FoundPivot>), ChildStop>
+) -> Result<Made, ChildStop>
     requires expandable { IsExpandable expansion.now }
-    ensures children { IfOk result (λ p. AreAllChildren expansion.now p.0.items) }
-    ensures found { IfOk result (λ p. AreFoundIn p.0.items expansion.now.known.now p.1.items) }
-    ensures vertices { IfOk result (λ p. AddsVertices expansion.now.system.now p.0.items
-        vertices.old.items vertices.new.items) }
+    ensures children { IfOk result (λ made. AreAllChildren expansion.now made.tableaux.items) }
+    ensures found { IfOk result
+        (λ made. AreFoundIn made.tableaux.items expansion.now.known.now made.found.items) }
+    ensures vertices { IfOk result (λ made. AddsVertices expansion.now.system.now
+        made.tableaux.items vertices.old.items vertices.new.items) }
     ensures stop { IfErr result (IsChildStop expansion.now) }
     ensures counted { OnOk result (pivots.new ≡ pivots.old + length expansion.now.next.now) }
     ensures bounded { pivots.new ≤ pivots.old + length expansion.now.next.now }
@@ -395,5 +396,5 @@ pub(crate) fn children<R: Threads + Sync, G: Gate, L: Ledger>(
     while made.tableaux.len() < expansion.next.len() {
         make_more(workshop, expansion, &mut made, vertices, pivots)?;
     }
-    Ok((made.tableaux, made.found))
+    Ok(made)
 }

@@ -154,9 +154,5 @@ pub(crate) fn next_pivots(found: Vec<FoundPivot>) -> Vec<FoundPivot>
 pub(crate) fn targets(alloc: Global, next: &[FoundPivot]) -> Result<Vec<u128>, Memory>
     ensures { IfOk result (λ v. v.items ≡ map target_of next.now) }
 {
-    let mut targets = Vec::with_capacity(alloc, next.len())?;
-    for pivot in next {
-        targets.push(pivot.target)?;
-    }
-    Ok(targets)
+    Ok(next.iter().map(|pivot| pivot.target).collect(alloc)?)
 }

@@ -2,10 +2,10 @@
 //! reach.
 //!
 //! Callers may rely on: `enumerate` gives each vertex once, in the order of masks, with the number
-//! of bases, which are no fewer, or the first step that does not fit, or the limit: one of these, and
-//! only one (`vertices_are_single`, `vertices_are_answered`); the pivots that
-//! are counted are one fewer than the bases. `enumerate_with` gives the same by `Helpers`, idle
-//! workers that several enumerations share.
+//! of bases, which are no fewer, or the first step that does not fit, or the limit: one of these,
+//! and only one (`vertices_are_single`, `vertices_are_answered`); the pivots that are counted are
+//! one fewer than the bases. `enumerate_with` gives the same by `Helpers`, idle workers that
+//! several enumerations share.
 //! Definitions: `specs::Reached` has the bases of a system in stages, level by level, `Levels` what
 //! levels are, `Bases` bases as numbers, `Enumeration` what a system answers; `linear_systems` says
 //! what vertices are. `Texts` says how a basis is displayed.
@@ -30,6 +30,7 @@ mod vertex;
 mod walk;
 mod workshop;
 
+pub use claims::Helpers;
 pub use enumeration::{enumerate, enumerate_with};
 pub use stop::{Basis, EnumerationStop};
 pub use vertex::{Vertex, Vertices};

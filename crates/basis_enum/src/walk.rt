@@ -1,5 +1,5 @@
 // The enumeration on its way, level after level.
-ghost use Rattle.std.specs.Prelude.{◌≡◌, ◌<◌, ◌≤◌, ◌+◌, ℕ, [], ◌∷◌, length, map, IfErr, IfOk, OnOk, Err};
+ghost use Rattle.std.specs.Prelude.{◌≡◌, ◌<◌, ◌≤◌, ◌+◌, ℕ, length, map, IfErr, IfOk, OnOk, Err};
 ghost use Rattle.std.specs.List.{Contains};
 ghost use Rattle.std.specs.List.Sorted.{IsStrictlyIncreasing};
 ghost use Rattle.lists.specs.Listed.{AreListed};
@@ -13,7 +13,7 @@ ghost use Rattle.basis_enum.specs.Reached.{bases_within};
 ghost use Rattle.basis_enum.specs.Walks.{AddsVertices, HaveEntering, IsCountStop, IsEnumerationStop, IsLevelStop, IsWalkAt, IsWalkToEnd};
 
 use crate::bases::{basis, merged};
-use crate::children::{ChildStop, Expansion, children};
+use crate::children::{ChildStop, Expansion, Made, children};
 use crate::found_pivots::{FoundPivot, found_from, next_pivots, targets};
 use crate::marking::add_vertex;
 use crate::spent::Spent;
@@ -43,15 +43,6 @@ pub(crate) struct Walk {
     spent: Spent,
 }
 
-// The list of one item.
-fn list_of<T: Drop>(alloc: Global, item: T) -> Result<Vec<T>, Memory>
-    ensures { IfOk result (λ list. list.items ≡ item ∷ []) }
-{
-    let mut list = Vec::new(alloc);
-    list.push(item)?;
-    Ok(list)
-}
-
 // Level 0, and the pivots to the next one.
 fn start<G: Gate>(
     alloc: Global,
@@ -66,10 +57,10 @@ fn start<G: Gate>(
 {
     let tableau = Tableau::start(alloc, system)?;
     let basis = basis(system.nonbasics());
-    let known = list_of(alloc, basis)?;
+    let known = Vec::from_array(alloc, [basis])?;
     gate.pass(0);
     let findings = found_from(alloc, system, &tableau, 0, basis, known.as_slice())?;
-    let level = list_of(alloc, tableau)?;
+    let level = Vec::from_array(alloc, [tableau])?;
     let mut vertices = Vec::new(alloc);
     add_vertex(&mut vertices, findings.vertex)?;
     let next = next_pivots(findings.found);
@@ -88,6 +79,8 @@ fn ascending(alloc: Global, variables: &[u32]) -> Result<Vec<u32>, Memory>
 {
     let mut list = variables.to_vec(alloc)?;
     list.sort_unstable();
+    // Basic variables differ from one another, so nothing is removed; it only shows that they
+    // ascend.
     list.dedup();
     Ok(list)
 }
@@ -124,13 +117,14 @@ fn next_level<R: Threads + Sync, G: Gate, L: Ledger>(
     number: u32,
     vertices: &mut Vec<Vertex>,
     pivots: &mut PivotCount<L>,
-) -> Result<(Vec<Tableau>, Vec<FoundPivot>), EnumerationStop>
+) -> Result<Made, EnumerationStop>
     requires expandable { IsExpandable expansion.now }
     requires entering { HaveEntering expansion.now.level.now expansion.now.next.now }
-    ensures children { IfOk result (λ p. AreAllChildren expansion.now p.0.items) }
-    ensures found { IfOk result (λ p. AreFoundIn p.0.items expansion.now.known.now p.1.items) }
-    ensures vertices { IfOk result (λ p. AddsVertices expansion.now.system.now p.0.items
-        vertices.old.items vertices.new.items) }
+    ensures children { IfOk result (λ made. AreAllChildren expansion.now made.tableaux.items) }
+    ensures found { IfOk result
+        (λ made. AreFoundIn made.tableaux.items expansion.now.known.now made.found.items) }
+    ensures vertices { IfOk result (λ made. AddsVertices expansion.now.system.now
+        made.tableaux.items vertices.old.items vertices.new.items) }
     ensures stop { IfErr result
         (IsLevelStop expansion.now.level.now expansion.now.next.now number) }
     ensures counted { OnOk result (pivots.new ≡ pivots.old + length expansion.now.next.now) }
@@ -204,8 +198,8 @@ fn advance<R: Threads + Sync, G: Gate, L: Ledger>(
         spent: walk.spent.share_among(next.len()),
     };
     let vertices = &mut walk.vertices;
-    let (level, found) = next_level(workshop, &expansion, number, vertices, pivots)?;
-    walk.spent.add(mem::replace(&mut walk.level, level));
+    let Made { tableaux, found } = next_level(workshop, &expansion, number, vertices, pivots)?;
+    walk.spent.add(mem::replace(&mut walk.level, tableaux));
     walk.known = known;
     Ok(next_pivots(found))
 }

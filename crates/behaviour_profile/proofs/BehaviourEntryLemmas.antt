@@ -4,7 +4,7 @@ use Rattle.std.specs.List.{flat_map}
 use Rattle.std.proofs.lemmas.Grind.{flat_map-append}
 use Rattle.std.proofs.lemmas.List.{append-nil, take_all, take_more, get_or-map, length-map}
 use Rattle.std.proofs.lemmas.Option.{same_Some, slice_get-get_or, slice_get_within, get_or_from_slice_get}
-use Rattle.game_theory.specs.TreeEntries.{own_entries, entries_below}
+use Rattle.game_theory.specs.TreeEntries.{entries_at}
 use Rattle.game_theory.specs.OwnSets.{own_sets}
 use Rattle.game_theory.proofs.OwnSetLemmas.{IsAmong, AscendFrom, own_sets-tell, own_sets-ascend}
 use Rattle.lists.proofs.ElementLemmas.{made-next}
@@ -21,11 +21,8 @@ use Rattle.reduced_strategies.specs.StrategicForm.{AreStrategies, list_of, compl
 use Rattle.reduced_strategies.proofs.StrategyProfileLemmas.{given_at-own, list_of-reduced, place-below}
 use Rattle.pure_payoffs.proofs.ChoiceLemmas.{choice_at-place}
 use Rattle.pure_payoffs.proofs.PlaceLemmas.{strategy-read}
+use Rattle.behaviour_profile.specs.EntryStarts.{sets_below}
 use Rattle.behaviour_profile.specs.FirstActions.{first_for_none}
-
--- the entries at some sets
-abbrev pub entries_at : Tree → Behaviour → List ℕ → List ℚ
-entries_at t b sets = flat_map (λ s. listed (t.actions s) (b s)) sets
 
 -- the entries of one set more
 pub entries_at-push : (t : Tree) (b : Behaviour) (all now old : List ℚ) (sets : List ℕ) (place s : ℕ) → slice_get sets place ≡ Some s → now ≡ old ++ entries_at t b (take place sets) → all ≡ now ++ listed (t.actions s) (b s)
@@ -47,22 +44,23 @@ entries_at-same t b other (s ∷ sets) same =
     ap₂ (λ v w. v ++ w) (listed-same (t.actions s) (b s) (other s) (λ a l. same s a (inl refl) l)) (entries_at-same t b other sets (λ r a h l. same r a (inr h) l))
 
 -- a player's entries in a profile are those of the player's list
-pub own_entries-profile : (t : Tree) (strategies : List (List (List ℕ))) (profile : List ℕ) (i : ℕ)
-    → own_entries t (pure (first_for_none t i (list_of strategies profile i))) i ≡ own_entries t (pure (completed t strategies profile)) i
+own_entries-profile : (t : Tree) (strategies : List (List (List ℕ))) (profile : List ℕ) (i : ℕ)
+    → entries_at t (pure (first_for_none t i (list_of strategies profile i))) (own_sets t i) ≡ entries_at t (pure (completed t strategies profile)) (own_sets t i)
 own_entries-profile t strategies profile i =
     entries_at-same t _ _ (own_sets t i) (λ s a h l. ap (λ x. sure (x - 1) a) (sym (given_at-own t strategies profile s i (own_sets-tell t i s h).1)))
 
 -- the entries of one player more
-pub entries_below-next : (t : Tree) (b : Behaviour) (all now : List ℚ) (i : ℕ) → now ≡ entries_below t b i → all ≡ now ++ own_entries t b i → all ≡ entries_below t b (i + 1)
+pub entries_below-next : (t : Tree) (b : Behaviour) (all now : List ℚ) (i : ℕ) → now ≡ entries_at t b (sets_below t i) → all ≡ now ++ entries_at t b (own_sets t i) → all ≡ entries_at t b (sets_below t (i + 1))
 entries_below-next t b all now i before push =
-    push ∙ ap (λ v. v ++ own_entries t b i) before ∙ sym (made-next (own_entries t b) i) ∙ ap (entries_below t b) (sym (add-one i))
+    push ∙ ap (λ v. v ++ entries_at t b (own_sets t i)) before ∙ sym (flat_map-append (λ s. listed (t.actions s) (b s)) (sets_below t i) (own_sets t i))
+    ∙ ap (entries_at t b) (sym (made-next (own_sets t) i) ∙ ap (sets_below t) (sym (add-one i)))
 
 -- the entries of a profile with one player more
-pub entries_below-push : (t : Tree) (strategies : List (List (List ℕ))) (profile choices : List ℕ) (all now : List ℚ) (i : ℕ) → choices ≡ list_of strategies profile i → now ≡ entries_below t (pure (completed t strategies profile)) i
-    → all ≡ now ++ own_entries t (pure (first_for_none t i choices)) i → all ≡ entries_below t (pure (completed t strategies profile)) (i + 1)
+pub entries_below-push : (t : Tree) (strategies : List (List (List ℕ))) (profile choices : List ℕ) (all now : List ℚ) (i : ℕ) → choices ≡ list_of strategies profile i → now ≡ entries_at t (pure (completed t strategies profile)) (sets_below t i)
+    → all ≡ now ++ entries_at t (pure (first_for_none t i choices)) (own_sets t i) → all ≡ entries_at t (pure (completed t strategies profile)) (sets_below t (i + 1))
 entries_below-push t strategies profile choices all now i is before push =
     entries_below-next t (pure (completed t strategies profile)) all now i before
-    (push ∙ ap (λ v. now ++ v) (ap (λ v. own_entries t (pure (first_for_none t i v)) i) is ∙ own_entries-profile t strategies profile i))
+    (push ∙ ap (λ v. now ++ v) (ap (λ v. entries_at t (pure (first_for_none t i v)) (own_sets t i)) is ∙ own_entries-profile t strategies profile i))
 
 -- ---- where the parts stand
 -- what stands at a place is among the sets

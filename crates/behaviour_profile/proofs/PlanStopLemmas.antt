@@ -1,6 +1,7 @@
 -- The behaviour of two plans, player by player, and what stops it.
 use Rattle.std.proofs.Common.{ℕ, ◌+◌, ◌<◌, ◌≤◌, ◌≡◌, inl, inr, Ok, Err, Some, List, [], ◌++◌, All, length, get_or, slice_get, take, sym, ap, ◌∙◌, subst}
 use Rattle.std.specs.List.{flat_map}
+use Rattle.std.proofs.lemmas.Grind.{flat_map-append}
 use Rattle.std.proofs.lemmas.List.{append-nil, take_all}
 use Rattle.std.proofs.lemmas.Option.{slice_get-get_or}
 use Rattle.answers.specs.Answers.{◌>>◌, Gives, IsSingle, only}
@@ -9,7 +10,7 @@ use Rattle.rational.specs.Rational.{ℚ}
 use Rattle.game_theory.specs.Lines.{listed}
 use Rattle.game_theory.specs.Trees.{Tree}
 use Rattle.game_theory.specs.OwnSets.{own_sets}
-use Rattle.game_theory.specs.TreeEntries.{own_entries, entries_below, tree_entries}
+use Rattle.game_theory.specs.TreeEntries.{entries_at, tree_entries}
 use Rattle.sequence_forms.specs.PlanBehaviour.{behaviour_of}
 use Rattle.sequence_forms.proofs.SequenceLemmas.{own_set-is}
 use Rattle.game_core.specs.Tree.{GameTree, label_of}
@@ -21,9 +22,10 @@ use Rattle.sequence_data.specs.declared.types.SetRow.{SetRow}
 use Rattle.sequence_form.specs.Sequences.{own_set_row}
 use Rattle.behaviour_profile.specs.declared.plans.BehaviourStop.{BehaviourStop}
 use Rattle.behaviour_profile.specs.declared.plans.BehaviourStop.TheVariants as stops
+use Rattle.behaviour_profile.specs.EntryStarts.{sets_below}
 use Rattle.behaviour_profile.specs.Plans.{actions_at, both_plans, own_actions, own_quotients_in, plan_behaviour, quotient_steps, quotient_stop}
 use Rattle.behaviour_profile.specs.Shares.{actions_of, share_at, shares_in, steps_at}
-use Rattle.behaviour_profile.proofs.BehaviourEntryLemmas.{entries_at, entries_at-push}
+use Rattle.behaviour_profile.proofs.BehaviourEntryLemmas.{entries_at-push}
 use Rattle.behaviour_profile.proofs.PlanShareLemmas.{shares_are, quotients_fit, first_quotient}
 use Rattle.frac128.proofs.UnfitListLemmas.{parts_fit, first_of-part}
 
@@ -55,7 +57,7 @@ module _ (t : Tree) (i n : ℕ) (plans : ℕ → ℕ → ℚ) (old new : List �
   all : take n (own_sets t i) ≡ own_sets t i
   all = take_all n (own_sets t i) l
 
-  pub all_entries : new ≡ old ++ own_entries t (behaviour_of t plans) i
+  pub all_entries : new ≡ old ++ entries_at t (behaviour_of t plans) (own_sets t i)
   all_entries = h.entries_are ∙ ap (λ v. old ++ entries_at t (behaviour_of t plans) v) all
 
   pub all_quotients : All (StepsFit (quotient_steps t plans)) (own_actions t i)
@@ -89,7 +91,7 @@ module _ (t : GameTree) (one two : List ℚ) where
       (gives_first stops.Memory (own_quotients_in t plans 1) (λ _. only entries) stop h)
 
   -- and what is made where nothing does
-  pub both_made : (old now new : List ℚ) → length t.players ≡ 2 → old ≡ [] → now ≡ old ++ own_entries (game_of_tree t) (behaviour_of (game_of_tree t) plans) 0 → new ≡ now ++ own_entries (game_of_tree t) (behaviour_of (game_of_tree t) plans) 1
+  pub both_made : (old now new : List ℚ) → length t.players ≡ 2 → old ≡ [] → now ≡ old ++ entries_at (game_of_tree t) (behaviour_of (game_of_tree t) plans) (own_sets (game_of_tree t) 0) → new ≡ now ++ entries_at (game_of_tree t) (behaviour_of (game_of_tree t) plans) (own_sets (game_of_tree t) 1)
       → own_quotients_in t plans 0 (Ok tt) → own_quotients_in t plans 1 (Ok tt) → plan_behaviour t one two (Ok new)
   both_made old now new two_players none first second fit_first fit_second =
       let g : Tree = game_of_tree t in
@@ -99,8 +101,9 @@ module _ (t : GameTree) (one two : List ℚ) where
         (
           tt,
           fit_second,
-          ap Ok (second ∙ ap (λ v. v ++ own_entries g behaviour 1) (first ∙ ap (λ v. v ++ own_entries g behaviour 0) none)
-              ∙ ap (λ v. own_entries g behaviour 0 ++ v) (sym (append-nil (own_entries g behaviour 1))) ∙ ap (entries_below g behaviour) (sym two_players)),
+          ap Ok (second ∙ ap (λ v. v ++ entries_at g behaviour (own_sets g 1)) (first ∙ ap (λ v. v ++ entries_at g behaviour (own_sets g 0)) none)
+              ∙ sym (flat_map-append (λ s. listed (g.actions s) (behaviour s)) (own_sets g 0) (own_sets g 1))
+              ∙ ap (entries_at g behaviour) (ap (λ v. own_sets g 0 ++ v) (sym (append-nil (own_sets g 1))) ∙ ap (sets_below g) (sym two_players))),
         ),
       )
 

@@ -42,9 +42,15 @@ pub enum ProfileFault {
     /// There are too few entries, or too many.
     Count,
     /// The entry at a place is negative.
-    Negative { place: u32 },
+    Negative {
+        /// The place.
+        place: u32,
+    },
     /// The entries of a group do not sum to 1.
-    Sum { group: u32 },
+    Sum {
+        /// The group.
+        group: u32,
+    },
     /// An entry cannot be added to those before it in its group.
     Unfit(Unfit),
 }
@@ -174,8 +180,8 @@ impl Behaviour {
     /// # Errors
     ///
     /// What is wrong first. `Count` where the entries are not as many as the players' actions. Else
-    /// set by set and entry by entry `Negative`, or `Unfit` where it cannot be added to those before
-    /// it at its set, and after each set's entries `Sum` where they do not sum to 1.
+    /// set by set and entry by entry `Negative`, or `Unfit` where it cannot be added to those
+    /// before it at its set, and after each set's entries `Sum` where they do not sum to 1.
     pub fn try_new(tree: &Tree, entries: Vec<Frac>) -> Result<Behaviour, ProfileFault>
         ensures { profile_in (action_counts (game_of_tree tree.now)) entries.items result }
     {

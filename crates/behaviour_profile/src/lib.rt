@@ -22,7 +22,7 @@ ghost use Rattle.reduced_strategies.specs.StrategicForm.{completed};
 ghost use Rattle.reduced_form.specs.ReducedForm.{IsReducedForm};
 ghost use Rattle.behaviour_profile.specs.FirstActions.{first_for_none};
 ghost use Rattle.game_theory.specs.OwnSets.{own_sets};
-ghost use Rattle.game_theory.specs.TreeEntries.{own_entries, tree_entries};
+ghost use Rattle.game_theory.specs.TreeEntries.{entries_at, tree_entries};
 
 mod entries;
 mod listed;
@@ -42,8 +42,8 @@ pub use starts::starts_of;
 use std::alloc::Global;
 use std::marker::Model;
 
-/// Behaviour on a tree. Contracts see it as the list of its entries: player by player, each player's own sets in
-/// order, and the probability of each action in order.
+/// Behaviour on a tree. Contracts see it as the list of its entries: player by player, each
+/// player's own sets in order, and the probability of each action in order.
 #[derive(Debug, Drop)]
 pub struct Behaviour {
     entries: Vec<Frac>,
@@ -80,9 +80,9 @@ impl Behaviour {
         self.entries.as_slice()
     }
 
-    /// The behaviour of a pure profile of reduced strategies: at each own set the strategy's action has probability
-    /// 1, and where it has none the first action. `reduced` is the tree's reduced form, and `profile` has for each
-    /// player the number of the strategy, from 0.
+    /// The behaviour of a pure profile of reduced strategies: at each own set the strategy's action
+    /// has probability 1, and where it has none the first action. `reduced` is the tree's reduced
+    /// form, and `profile` has for each player the number of the strategy, from 0.
     ///
     /// # Errors
     ///
@@ -109,7 +109,8 @@ impl Behaviour {
     }
 }
 
-// Adds the entries of a player who plays a strategy, with the first action at each set to which it gives none.
+// Adds the entries of a player who plays a strategy, with the first action at each set to which it
+// gives none.
 fn push_player(
     entries: &mut Vec<Frac>,
     tree: &Tree,
@@ -119,8 +120,9 @@ fn push_player(
     requires { length strategy.now ≡ length (own_sets (game_of_tree tree.now) player) }
     ensures { OnOk result
         (entries.new.items ≡ entries.old.items
-        ++ own_entries (game_of_tree tree.now)
-        (pure (first_for_none (game_of_tree tree.now) player strategy.now)) player) }
+        ++ entries_at (game_of_tree tree.now)
+        (pure (first_for_none (game_of_tree tree.now) player strategy.now))
+        (own_sets (game_of_tree tree.now) player)) }
 {
     let sets = tree.sets();
     let own = tree.sets_of(player);

@@ -2,7 +2,8 @@
 ghost use Rattle.std.specs.Prelude.{◌≡◌, ◌++◌, OnOk, map};
 ghost use Rattle.behaviour_profile.specs.ListedBehaviour.{HasProbabilities, listed_behaviour};
 ghost use Rattle.game_core.specs.TreeGame.{game_of_tree};
-ghost use Rattle.game_theory.specs.TreeEntries.{own_entries};
+ghost use Rattle.game_theory.specs.OwnSets.{own_sets};
+ghost use Rattle.game_theory.specs.TreeEntries.{entries_at};
 
 use crate::Behaviour;
 use answers::Memory;
@@ -19,8 +20,9 @@ fn push_lists(
 ) -> Result<(), Memory>
     requires lists { HasProbabilities (game_of_tree tree.now) (map (λ v. v.items) lists.now) }
     ensures { OnOk result
-        (entries.new.items ≡ entries.old.items ++ own_entries (game_of_tree tree.now)
-        (listed_behaviour (map (λ v. v.items) lists.now)) player) }
+        (entries.new.items ≡ entries.old.items ++ entries_at (game_of_tree tree.now)
+        (listed_behaviour (map (λ v. v.items) lists.now))
+        (own_sets (game_of_tree tree.now) player)) }
 {
     tree.stands_for_game_tree();
     for set in tree.sets_of(player) {

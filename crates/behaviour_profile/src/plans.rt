@@ -18,7 +18,7 @@ ghost use Rattle.rational.specs.Rational.{ℚ};
 ghost use Rattle.frac128.specs.Steps.{StepsGive};
 ghost use Rattle.game_theory.specs.Lines.{listed};
 ghost use Rattle.game_theory.specs.OwnSets.{own_sets};
-ghost use Rattle.game_theory.specs.TreeEntries.{own_entries};
+ghost use Rattle.game_theory.specs.TreeEntries.{entries_at};
 ghost use Rattle.sequence_forms.specs.PlanBehaviour.{behaviour_of, share};
 ghost use Rattle.game_core.specs.Tree.{GameTree, label_of};
 ghost use Rattle.game_core.specs.TreeGame.{game_of_tree};
@@ -62,8 +62,8 @@ impl<T: Drop> From<AllocFailed<T>> for BehaviourStop {
     }
 }
 
-// The weight after an action divided by the weight before its set, and where that is 0, 1 divided by the number of
-// actions.
+// The weight after an action divided by the weight before its set, and where that is 0, 1 divided
+// by the number of actions.
 fn share(count: u32, before: Frac, after: Frac) -> Result<Frac, Unfit>
     requires { 0 < count }
     ensures { StepsGive (share_steps before after) (share count before after) result }
@@ -129,7 +129,8 @@ fn push_plan(
     requires plan { length plan.now ≡ side.now.sequences }
     ensures added { let t = game_of_tree tree.now in
         (plans : ℕ → ℕ → ℚ) → plans player ≡ entry_at plan.now → OnOk result
-        (entries.new.items ≡ entries.old.items ++ own_entries t (behaviour_of t plans) player) }
+        (entries.new.items
+        ≡ entries.old.items ++ entries_at t (behaviour_of t plans) (own_sets t player)) }
     ensures steps { (plans : ℕ → ℕ → ℚ) → plans player ≡ entry_at plan.now
         → Gives stops.Memory (own_quotients_in tree.now plans player) result }
 {
@@ -143,14 +144,15 @@ fn push_plan(
 }
 
 impl Behaviour {
-    /// The behaviour of two plans on a tree: each action's entry is its sequence's weight divided by the weight
-    /// before its set, and where that is 0, 1 divided by the number of actions. `form` is the tree's sequence form;
-    /// `one` and `two` have a weight for each sequence of players one and two.
+    /// The behaviour of two plans on a tree: each action's entry is its sequence's weight divided
+    /// by the weight before its set, and where that is 0, 1 divided by the number of actions.
+    /// `form` is the tree's sequence form; `one` and `two` have a weight for each sequence of
+    /// players one and two.
     ///
     /// # Errors
     ///
-    /// `Range` exactly at the first quotient that does not fit, in the order of the players, their sets and the
-    /// actions. `Memory` where memory ran out.
+    /// `Range` exactly at the first quotient that does not fit, in the order of the players, their
+    /// sets and the actions. `Memory` where memory ran out.
     pub fn from_plans(
         alloc: Global,
         tree: &Tree,
@@ -170,8 +172,8 @@ impl Behaviour {
     }
 }
 
-/// Two lists of weights have at most one answer: their behaviour, or the first quotient that does not
-/// fit.
+/// Two lists of weights have at most one answer: their behaviour, or the first quotient that does
+/// not fit.
 pub fn plan_behaviours_are_single()
     ensures { (t : GameTree) (one two : List ℚ) → IsSingle (plan_behaviour t one two) }
 {}

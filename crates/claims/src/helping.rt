@@ -29,13 +29,13 @@ pub(crate) struct Job<'a, R, F, G> {
 }
 
 /// The list `f(0)` to `f(count - 1)`, computed by the calling thread and by helpers. A helper joins
-/// in, in a thread of its own where one can be made, where some are idle and a worker's share of the
-/// pieces that are left is enough for one; the worker and the helper then have half of the share
-/// each. The calling thread looks for helpers at the start, and each worker after every 16 pieces.
-/// Each helper is added again. Where some are idle at the start, a thread that does nothing is
-/// started first, and nobody waits for it. The workers claim the numbers from the claim word, and
-/// pass the gate before each piece. The pass has all 64 parts and has claimed nothing; whatever the
-/// answer, it has all parts again, and tells the numbers that were claimed. Refused for want of
+/// in, in a thread of its own where one can be made, where some are idle and a worker's share of
+/// the pieces that are left is enough for one; the worker and the helper then have half of the
+/// share each. The calling thread looks for helpers at the start, and each worker after every 16
+/// pieces. Each helper is added again. Where some are idle at the start, a thread that does nothing
+/// is started first, and nobody waits for it. The workers claim the numbers from the claim word,
+/// and pass the gate before each piece. The pass has all 64 parts and has claimed nothing; whatever
+/// the answer, it has all parts again, and tells the numbers that were claimed. Refused for want of
 /// memory alone.
 ///
 /// # Errors
@@ -99,8 +99,8 @@ fn share(left: usize, parts: u32) -> usize {
     left.saturating_mul(parts as usize) / ALL_PARTS as usize
 }
 
-// The further pieces that a worker claims, until none is left, beside helpers who join in where some
-// are idle. So many are left as far as the worker knows.
+// The further pieces that a worker claims, until none is left, beside helpers who join in where
+// some are idle. So many are left as far as the worker knows.
 #[cycle(helping)]
 fn helped<R: Threads + Sync, T: Send + Drop, F: Fn(usize) -> T + Sync, G: Gate>(
     job: &Job<R, F, G>,

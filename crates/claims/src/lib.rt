@@ -8,8 +8,8 @@
 //! Definitions: `specs::ClaimWord` has `PassState`, what contracts see of a `Pass`, with
 //! `HasEachBelow` and `KnowsWhole`.
 //! Private words: `specs::Pieces`, and `KeepsClaims`, the rule of the claim word.
-//! A change here touches: `basis_enum`, which computes its levels by `helped_map`; `enummixed`, whose
-//! enumerations share `Helpers`; and gate tests, which alone call `shared_map`.
+//! A change here touches: `basis_enum`, which computes its levels by `helped_map`; `enummixed`,
+//! whose enumerations share `Helpers`; and gate tests, which alone call `shared_map`.
 #![tactic(auto)]
 
 mod claim_word;

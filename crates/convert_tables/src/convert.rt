@@ -154,7 +154,7 @@ pub fn html(alloc: Global, table: &Table, row: u32, column: u32) -> Result<Vec<u
 ///
 /// # Errors
 ///
-/// The same.
+/// Those of `html`.
 pub fn sgame(alloc: Global, table: &Table, row: u32, column: u32) -> Result<Vec<u8>, ConvertStop>
     ensures { Gives stops.Memory (sgame_text table.now row column)
         (map_ok result (λ text. text.items)) }
@@ -170,8 +170,8 @@ pub fn layouts_are_single()
 
 /// A table has an answer of each kind.
 pub fn layouts_are_answered()
-    ensures html { (table : GameTable) (row column : ℕ) → IsAnswered (html_text table row column) }
-    ensures sgame { (table : GameTable) (row column : ℕ) → IsAnswered (sgame_text table row column) }
+    ensures html { (t : GameTable) (row column : ℕ) → IsAnswered (html_text t row column) }
+    ensures sgame { (t : GameTable) (row column : ℕ) → IsAnswered (sgame_text t row column) }
 {}
 
 /// The layouts of the prisoners' dilemma.

@@ -15,7 +15,8 @@ pub(crate) const MOST_NODES: usize = 65536;
 /// The most edges from the root to a node.
 pub(crate) const MOST_DEPTH: u32 = 1024;
 
-/// A node some of whose actions lead nowhere yet; before the root there is one of these without a node.
+/// A node some of whose actions lead nowhere yet; before the root there is one of these without a
+/// node.
 #[derive(Clone, Copy, Debug, PartialEq, Eq)]
 pub struct Branching {
     /// The node, and nothing before the root.

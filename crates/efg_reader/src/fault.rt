@@ -4,8 +4,8 @@ use game_core::TooLarge;
 use std::alloc::AllocError;
 use tree_grammar::EfgKind;
 
-/// A fault in a file of a tree: its kind, and the byte offset from 0 of the token named, or the source's length
-/// where the tokens end too early.
+/// A fault in a file of a tree: its kind, and the byte offset from 0 of the token named, or the
+/// source's length where the tokens end too early.
 #[derive(Clone, Copy, Debug, PartialEq, Eq)]
 pub struct EfgFault {
     /// The offset.

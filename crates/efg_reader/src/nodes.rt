@@ -88,7 +88,8 @@ fn use_set<'a>(
     Ok((sets, used, rest))
 }
 
-// The sets with one of the player whose number comes, that set as the node uses it, and the tokens after it.
+// The sets with one of the player whose number comes, that set as the node uses it, and the tokens
+// after it.
 #[tactic(auto, using(file_parts::proofs::ParseLemmas::refused_first, tree_faults::proofs::ShortRestLemmas::player_leaves), unfolding(tree_grammar::specs::TreeParsing::parse_own_choice))]
 fn use_own_set<'a>(
     alloc: Global,
@@ -106,7 +107,8 @@ fn use_own_set<'a>(
     use_set(alloc, sets, Some(player), number, following)
 }
 
-// A node with this number up to its outcome: the sets with the one that it uses, that set, and the tokens after it.
+// A node with this number up to its outcome: the sets with the one that it uses, that set, and the
+// tokens after it.
 #[tactic(auto, using(tree_faults::proofs::ShortRestLemmas::short_after), unfolding(tree_grammar::specs::TreeParsing::parse_choice))]
 fn node_front<'a>(
     alloc: Global,

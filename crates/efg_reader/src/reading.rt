@@ -70,10 +70,10 @@ fn tree(alloc: Global, front: Front, builder: Builder) -> Result<Tree, EfgStop>
 ///
 /// # Errors
 ///
-/// `Fault` exactly where the tokens are no file of a tree and pass no limit: its kind, and the offset of the first
-/// token with which no file can begin any more, or the source's length where the tokens end too early. `TooLarge`
-/// exactly where a node begins that is the 65,537th, or else lies 1,025 edges below the root. `Memory` where memory
-/// ran out.
+/// `Fault` exactly where the tokens are no file of a tree and pass no limit: its kind, and the
+/// offset of the first token with which no file can begin any more, or the source's length where
+/// the tokens end too early. `TooLarge` exactly where a node begins that is the 65,537th, or else
+/// lies 1,025 edges below the root. `Memory` where memory ran out.
 pub fn read(alloc: Global, tokens: &Tokens) -> Result<Tree, EfgStop>
     requires few { length tokens.now.list < 2 ^ 32 }
     ensures { Gives Memory (tree_in tokens.now) result }

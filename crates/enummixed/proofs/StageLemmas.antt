@@ -2,7 +2,7 @@
 use Rattle.std.proofs.Common.{ℕ, ◌<◌, ◌≡◌, List, All, Ok, Err, Result, length, map, get_or, ap, sym, subst, subst₂}
 use Rattle.std.specs.Prelude.{Contains}
 use Rattle.std.specs.Result.{IsErrAnd}
-use Rattle.std.proofs.lemmas.List.Elements.{All-map, Contains-get_or}
+use Rattle.std.proofs.lemmas.List.Elements.{Contains-get_or}
 use Rattle.answers.specs.Answers.{Answer, Gives, only, ◌>>=◌, refused_by, map_ok}
 use Rattle.answers.proofs.AnswerLemmas.{gives_bind_as, gives_refused}
 use Rattle.game_theory.specs.Profiles.{Game}
@@ -34,13 +34,13 @@ pub two-enumerable : (game : Game) (one two : LinearSystem) → polytopes_in gam
 two-enumerable game one two p = let e = second_enumerable game one two (polytopes_of game one two p) in record { rated = e.0; few = e.1; numbered = e.2; right = e.3 }
 
 -- the places of pairs are those of the lists
-pub first-places-in : (all : List ℕ) (first second : List MarkedPoint) (pairs : List (ℕ × ℕ)) → pairs ≡ all_pairs all first second → All (λ i. i < length first) (map (λ p. p.0) pairs)
+pub first-places-in : (all : List ℕ) (first second : List MarkedPoint) (pairs : List (ℕ × ℕ)) → pairs ≡ all_pairs all first second → All (λ p. p.0 < length first) pairs
 first-places-in all first second pairs is =
-    All-map (λ i. i < length first) (λ (p : ℕ × ℕ). p.0) pairs (λ k d l. ((exactly_those.exactly all first second (get_or pairs k d).0 (get_or pairs k d).1).0 (subst (λ ps. Contains ps (get_or pairs k d)) is (Contains-get_or pairs k d l))).in_first)
+    λ k d l. ((exactly_those.exactly all first second (get_or pairs k d).0 (get_or pairs k d).1).0 (subst (λ ps. Contains ps (get_or pairs k d)) is (Contains-get_or pairs k d l))).in_first
 
-pub second-places-in : (all : List ℕ) (first second : List MarkedPoint) (pairs : List (ℕ × ℕ)) → pairs ≡ all_pairs all first second → All (λ i. i < length second) (map (λ p. p.1) pairs)
+pub second-places-in : (all : List ℕ) (first second : List MarkedPoint) (pairs : List (ℕ × ℕ)) → pairs ≡ all_pairs all first second → All (λ p. p.1 < length second) pairs
 second-places-in all first second pairs is =
-    All-map (λ i. i < length second) (λ (p : ℕ × ℕ). p.1) pairs (λ k d l. ((exactly_those.exactly all first second (get_or pairs k d).0 (get_or pairs k d).1).0 (subst (λ ps. Contains ps (get_or pairs k d)) is (Contains-get_or pairs k d l))).in_second)
+    λ k d l. ((exactly_those.exactly all first second (get_or pairs k d).0 (get_or pairs k d).1).0 (subst (λ ps. Contains ps (get_or pairs k d)) is (Contains-get_or pairs k d l))).in_second
 
 -- the pairs of lists that are read
 pub pairs-as : (l k : List ℕ) (f g s t : List MarkedPoint) (r : Result (List (ℕ × ℕ)) PairStop) → l ≡ k → f ≡ g → s ≡ t → Gives pair_stops.Memory (pairs_in l f s) r → Gives pair_stops.Memory (pairs_in k g t) r

@@ -1,7 +1,7 @@
 -- The used points up to a place
 use Rattle.std.proofs.Common.{ℕ, zero, suc, ◌+◌, ◌-◌, ◌<◌, ◌≡◌, inl, inr, Bool, true, false, cond, Err, List, [], ◌∷◌, ◌++◌, All, length, map, get_or, refl, sym, ap, ap₂, ◌∙◌, subst, arith, add-one}
 use Rattle.std.specs.List.{filter, range_with_len}
-use Rattle.std.proofs.lemmas.List.{append-nil, get_or-map, map-append}
+use Rattle.std.proofs.lemmas.List.{append-nil, get_or-map, length-map, map-append}
 use Rattle.std.proofs.lemmas.List.Elements.{filter-append, All-append, All-cons, All-nil}
 use Rattle.std.proofs.lemmas.List.FromFn.{map-range_with_len_more, length-range_with_len, get_or-range_with_len, get_or-map-range_with_len}
 use Rattle.rational.specs.Rational.{ℚ}
@@ -119,3 +119,14 @@ module _ (list : List MarkedPoint) (places : List ℕ) (flags : List Bool) (are 
   pub scaled-same : scaled_used list (is_set flags) ≡ scaled_used list (occurs places)
   scaled-same =
       map_same (λ i. cond (is_set flags i) (scaled_point (mark_at list i).point) []) (λ i. cond (occurs places i) (scaled_point (mark_at list i).point) []) (range_with_len 0 (length list)) (λ k d h. ap (λ b. cond b (scaled_point (mark_at list (get_or (range_with_len 0 (length list)) k d)).point) []) (told k d h))
+
+-- flags that tell which vertices of a list that is read occur
+module _ (vs ws : List Vertex) (read : vs ≡ ws) (places : List ℕ) (flags : List Bool) (are : flags ≡ map (occurs places) (range_with_len 0 (length ws))) where
+  are-marks : flags ≡ map (occurs places) (range_with_len 0 (length (marks_of ws)))
+  are-marks = are ∙ ap (λ n. map (occurs places) (range_with_len 0 n)) (sym (length-map ws mark_of))
+
+  pub used-read : used_points (marks_of vs) (is_set flags) ≡ used_points (marks_of ws) (occurs places)
+  used-read = ap (λ us. used_points (marks_of us) (is_set flags)) read ∙ used-same (marks_of ws) places flags are-marks
+
+  pub scaled-read : scaled_used (marks_of vs) (is_set flags) ≡ scaled_used (marks_of ws) (occurs places)
+  scaled-read = ap (λ us. scaled_used (marks_of us) (is_set flags)) read ∙ scaled-same (marks_of ws) places flags are-marks

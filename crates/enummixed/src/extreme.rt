@@ -1,5 +1,5 @@
 // The pairs of vertices that make the extreme equilibria of a table.
-ghost use Rattle.std.specs.Prelude.{◌≡◌, ◌<◌, ◌≤◌, ℕ, All, length, map, IfOk};
+ghost use Rattle.std.specs.Prelude.{◌≡◌, ◌<◌, ◌≤◌, ℕ, length, map, IfOk};
 ghost use Rattle.answers.specs.Answers.{Gives, refused_by, map_ok};
 ghost use Rattle.game_core.specs.Table.{game_of};
 ghost use Rattle.basis_enum.specs.Systems.{IsEnumerable};
@@ -12,13 +12,12 @@ ghost use Rattle.enummixed.specs.BothVertices.{both_lists_of, both_vertices_in};
 ghost use Rattle.enummixed.specs.ExtremeText.{extreme_pairs};
 ghost use Rattle.enummixed.specs.Pairs.{pairs_of, AreScaled};
 ghost use Rattle.enummixed.specs.Told.{enumeration_stop, scale_stop};
-ghost use Rattle.enummixed.specs.Used.{occurs, used_points, scaled_used, scaling_in};
+ghost use Rattle.enummixed.specs.Used.{is_set, used_points, scaled_used, scaling_in};
 ghost use Rattle.basis_enum.specs.declared.stop.EnumerationStop.TheVariants as enum_stops;
 ghost use Rattle.enummixed.specs.declared.stop.MixedStop.TheVariants as stops;
 
-use crate::points::{all_labels, scaled_points, used_places};
+use crate::points::{all_labels, first_used, scaled_points, second_used};
 use crate::stop::MixedStop;
-use answers::Memory;
 use basis_enum::{EnumerationStop, Vertex, Vertices, enumerate_with};
 use claims::{FEWEST_SHARED, Helpers, make_room};
 use frac128::Frac;
@@ -52,8 +51,8 @@ pub struct ExtremePairs {
 // The fewest workers by whom both polytopes are enumerated at once.
 const SIDE_BY_SIDE: u32 = 4;
 
-// How many pieces are enough for a helper where both polytopes are enumerated at once: a thread that
-// is started for fewer saves little.
+// How many pieces are enough for a helper where both polytopes are enumerated at once: a thread
+// that is started for fewer saves little.
 const ENOUGH_SIDE_BY_SIDE: usize = 64;
 
 // The vertices of a system. The pivots are counted on a blank, and the count is not used.
@@ -200,39 +199,24 @@ fn both_vertices<R: Threads + Sync, G: Gate>(
     }
 }
 
-// The first place of each pair.
-fn first_places(alloc: Global, pairs: &[(u32, u32)]) -> Result<Vec<u32>, Memory>
-    ensures { IfOk result (λ places. places.items ≡ map (λ p. p.0) pairs.now) }
-{
-    Ok(pairs.iter().map(|pair| pair.0).collect(alloc)?)
-}
-
-// The second place of each pair.
-fn second_places(alloc: Global, pairs: &[(u32, u32)]) -> Result<Vec<u32>, Memory>
-    ensures { IfOk result (λ places. places.items ≡ map (λ p. p.1) pairs.now) }
-{
-    Ok(pairs.iter().map(|pair| pair.1).collect(alloc)?)
-}
-
-// The scaled points of a polytope's vertices at these places.
+// The scaled points of a polytope's vertices that are used.
 fn scaled(
     alloc: Global,
     polytope: u32,
     vertices: &[Vertex],
-    places: &[u32],
+    used: &[bool],
 ) -> Result<Vec<Vec<Frac>>, MixedStop>
-    requires places { All (λ place. place < length vertices.now) places.now }
+    requires used { length used.now ≡ length vertices.now }
     requires scalable { (i : ℕ) → i < length vertices.now
         → IsScalable (mark_at (marks_of vertices.now) i).point }
     ensures fit { Gives stops.Memory
         (refused_by (scale_stop polytope)
-        (scaling_in (used_points (marks_of vertices.now) (occurs places.now))))
+        (scaling_in (used_points (marks_of vertices.now) (is_set used.now))))
         (map_ok result (λ points. tt)) }
     ensures scaled { IfOk result (λ points. map (λ v. v.items) points.items
-        ≡ scaled_used (marks_of vertices.now) (occurs places.now)) }
+        ≡ scaled_used (marks_of vertices.now) (is_set used.now)) }
 {
-    let used = used_places(alloc, places, vertices.len())?;
-    match scaled_points(alloc, vertices, &used) {
+    match scaled_points(alloc, vertices, used) {
         Ok(points) => Ok(points),
         Err(stop) => Err(MixedStop::of_scaling(polytope, stop)),
     }
@@ -265,9 +249,9 @@ pub fn extreme_pairs<R: Threads + Sync, G: Gate>(
     let (first, second) = both_vertices(rt, alloc, &one, &two, workers, gate)?;
     let labels = all_labels(one.basics().len() + one.nonbasics().len());
     let pairs = pairs(rt, alloc, &first.list, &second.list, labels)?;
-    let first_used = first_places(alloc, &pairs)?;
+    let first_used = first_used(alloc, &pairs, first.list.len())?;
     let firsts = scaled(alloc, 0, &first.list, &first_used)?;
-    let second_used = second_places(alloc, &pairs)?;
+    let second_used = second_used(alloc, &pairs, second.list.len())?;
     let seconds = scaled(alloc, 1, &second.list, &second_used)?;
     Ok(ExtremePairs {
         first,

@@ -35,13 +35,14 @@ pub fn extreme_texts_are_single()
     ensures { ExtremeTextsAreSingle }
 {}
 
-/// A game, each of whose players has a strategy, has an answer: a list of pairs, or why it has none.
+/// A game, each of whose players has a strategy, has an answer: a list of pairs, or why it has
+/// none.
 pub fn extreme_pairs_are_answered()
     ensures { ExtremePairsAreAnswered }
 {}
 
-/// Such a game has an answer: a text of extreme equilibria, or why it has none. So has a table, where
-/// its text is found by its kept strategies.
+/// A game each of whose players has a strategy has an answer: a text of extreme equilibria, or why
+/// it has none. So has a table, where its text is found by its kept strategies.
 pub fn extreme_texts_are_answered()
     ensures { ExtremeTextsAreAnswered }
 {}

@@ -86,10 +86,7 @@ fn ranks(alloc: Global, points: &[Vec<Frac>]) -> Result<Vec<usize>, Memory>
 fn rank(ranks: &[usize], place: u32) -> usize
     ensures { result ≡ get_or ranks.now place 0 }
 {
-    match ranks.get(place as usize) {
-        Some(rank) => *rank,
-        None => 0,
-    }
+    ranks.get(place as usize).copied().unwrap_or(0)
 }
 
 /// Sorts pairs of places by their lines: at the first entry that differs the greater comes first.

@@ -38,14 +38,36 @@ pub(crate) fn all_labels(count: usize) -> [u64; 2]
     }
 }
 
-/// For each of so many places: whether it occurs among these.
-pub(crate) fn used_places(alloc: Global, places: &[u32], count: usize) -> Result<Vec<bool>, Memory>
-    requires { All (λ place. place < count) places.now }
-    ensures { IfOk result (λ used. used.items ≡ map (occurs places.now) (range_with_len 0 count)) }
+/// For each of so many places of the first polytope: whether it stands in one of these pairs.
+pub(crate) fn first_used(
+    alloc: Global,
+    pairs: &[(u32, u32)],
+    count: usize,
+) -> Result<Vec<bool>, Memory>
+    requires { All (λ pair. pair.0 < count) pairs.now }
+    ensures { IfOk result (λ used. used.items
+        ≡ map (occurs (map (λ pair. pair.0) pairs.now)) (range_with_len 0 count)) }
 {
     let mut used = vec![in alloc; false; count]?;
-    for place in places {
-        used[*place as usize] = true;
+    for pair in pairs {
+        used[pair.0 as usize] = true;
+    }
+    Ok(used)
+}
+
+/// The same of the second polytope.
+pub(crate) fn second_used(
+    alloc: Global,
+    pairs: &[(u32, u32)],
+    count: usize,
+) -> Result<Vec<bool>, Memory>
+    requires { All (λ pair. pair.1 < count) pairs.now }
+    ensures { IfOk result (λ used. used.items
+        ≡ map (occurs (map (λ pair. pair.1) pairs.now)) (range_with_len 0 count)) }
+{
+    let mut used = vec![in alloc; false; count]?;
+    for pair in pairs {
+        used[pair.1 as usize] = true;
     }
     Ok(used)
 }

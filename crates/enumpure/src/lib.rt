@@ -2,8 +2,8 @@
 //!
 //! Callers may rely on: `list_pure_equilibria` gives the text of all pure equilibria, refused
 //! exactly where it is too long, and `list_profiles` that of profiles that pass any test;
-//! `mutual_best_replies` finds where all play best replies, and `keep_best_replies` where one player
-//! does, whose payoffs stand in a `Column`.
+//! `mutual_best_replies` finds where all play best replies, and `keep_best_replies` where one
+//! player does, whose payoffs stand in a `Column`.
 //! Definitions: `specs::Text` says what the text is, `Stops` what a table answers within the limit
 //! on texts, `Replies` best replies by the numbers of profiles and the columns of their payoffs,
 //! `Ranks` the lines of profiles that pass.

@@ -175,7 +175,7 @@ pub fn behaviour_texts_are_single()
         → IsSingle (behaviour_text t strategies) }
 {}
 
-/// Every tree has an answer.
+/// A tree has an answer by its reduced strategies.
 pub fn behaviour_texts_are_answered()
     ensures { (t : game_tree) (strategies : List (List (List ℕ))) → IsTree t
         → AreStrategies t strategies → IsAnswered (behaviour_text t strategies) }

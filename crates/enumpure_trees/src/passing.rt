@@ -32,11 +32,7 @@ fn all_players(alloc: Global, tree: &Tree) -> Result<Vec<u32>, Memory>
     ensures { IfOk result (λ players. players.items ≡ choosers false (game_of_tree tree.now)) }
 {
     tree.stands_for_game_tree();
-    let mut players = Vec::new(alloc);
-    for player in 0..tree.players().len() {
-        players.push(player as u32)?;
-    }
-    Ok(players)
+    Ok((0..tree.players().len() as u32).collect(alloc)?)
 }
 
 // How many choices of one action at each own set a player has.

@@ -16,16 +16,16 @@ use enumpure::list_profiles;
 use game_core::Tree;
 use std::alloc::Global;
 
-/// The lines of the choices that pass, each once, in descending order of the lines' entries. A choice
-/// is one action at each player's set. It passes where it is an equilibrium at each node at which it is
-/// tested: of the agent form where `agents` is set, and else of the players; at each node where a
-/// subgame begins where `perfect` is set, and else at the tree's root alone.
+/// The lines of the choices that pass, each once, in descending order of the lines' entries. A
+/// choice is one action at each player's set. It passes where it is an equilibrium at each node at
+/// which it is tested: of the agent form where `agents` is set, and else of the players; at each
+/// node where a subgame begins where `perfect` is set, and else at the tree's root alone.
 ///
 /// # Errors
 ///
 /// `TooLarge` exactly where choices times nodes times players are more than 1,048,576, or where the
-/// values have no other refusal and the lines have more than 67,108,864 bytes; `Range` where a step of
-/// a value does not fit: the first; `Memory` where memory ran out.
+/// values have no other refusal and the lines have more than 67,108,864 bytes; `Range` where a step
+/// of a value does not fit: the first; `Memory` where memory ran out.
 pub fn list_passing_choices(
     alloc: Global,
     agents: bool,

@@ -10,8 +10,8 @@ use std::alloc::AllocFailed;
 pub enum ChoiceStop {
     /// The values would be more than 1,048,576, or the text would have more than 67,108,864 bytes.
     TooLarge(TooLarge),
-    /// A step of a value does not fit: the first, choices in order, in each node by node and player by
-    /// player.
+    /// A step of a value does not fit: the first, choices in order, in each node by node and player
+    /// by player.
     Range {
         /// The choice.
         choice: u32,

@@ -139,8 +139,8 @@ fn push_choice(
 }
 
 /// The number of choices, and their values at these nodes: choice by choice, in each node by node,
-/// and in each player by player. `sets` are the players' sets and `counts` has how many actions each
-/// has.
+/// and in each player by player. `sets` are the players' sets and `counts` has how many actions
+/// each has.
 ///
 /// # Errors
 ///

@@ -5,7 +5,8 @@ use std::alloc::{AllocError, AllocFailed};
 /// Why a part of a file was not read. `K` is what the reader of the file names a fault by.
 #[derive(Clone, Copy, Debug, PartialEq, Eq)]
 pub enum PartStop<K> {
-    /// A token does not fit: the kind of the fault, and how many tokens are left from that token on.
+    /// A token does not fit: the kind of the fault, and how many tokens are left from that token
+    /// on.
     Unexpected(K, usize),
     /// Memory ran out.
     Memory,

@@ -1,7 +1,9 @@
 -- when a step on two fractions fits, and the first of several that does not
-use Rattle.std.specs.Prelude.{pos, ℤ, ◌*ℤ◌, ◌+ℤ◌, ◌-ℤ◌, ◌/◌, ◌≡◌, List, ◌∷◌, ◌++◌, All, Result, MatchResult}
+use Rattle.std.specs.Prelude.{ℕ, pos, ℤ, ◌*ℤ◌, ◌+ℤ◌, ◌-ℤ◌, ◌/◌, ◌≡◌, List, [], ◌∷◌, ◌++◌, All, Result, MatchResult}
+use Rattle.std.specs.List.{flat_map, range_with_len}
 use Rattle.rational.specs.Gcd.{gcd}
 use Rattle.rational.specs.Rational.{ℚ, ◌+ℚ◌, ◌-ℚ◌, ◌*ℚ◌, inv_ℚ}
+use Rattle.rational.specs.Sum.{sum_to}
 use Rattle.frac128.specs.Fraction.{PartFits, Fits}
 use Rattle.frac128.specs.declared.steps.Op.{Op}
 use Rattle.frac128.specs.declared.steps.Op.TheVariants.{Add, Sub, Mul, Div}
@@ -42,6 +44,15 @@ Step = Unfit
 -- the step of this operation on these numbers, whether it fits or not
 abbrev pub step_of : Op → ℚ → ℚ → Step
 step_of op a b = record { op = op; left = a; right = b }
+
+-- the product of two numbers is added to a sum
+abbrev pub added_product_steps : ℚ → ℚ → ℚ → List Step
+added_product_steps sum a b = step_of Mul a b ∷ step_of Add sum (a *ℚ b) ∷ []
+
+-- a sum from 0 over the first n numbers in order, each added as soon as its own steps are made
+abbrev pub sum_steps : ℕ → (ℕ → ℚ) → (ℕ → List Step) → List Step
+sum_steps n v later =
+    flat_map (λ k. later k ++ step_of Add (sum_to k v) (v k) ∷ []) (range_with_len 0 n)
 
 -- such an operation on two numbers fits
 abbrev pub OperationFits : Op → ℚ → ℚ → Type 0

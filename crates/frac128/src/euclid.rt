@@ -22,7 +22,8 @@ fn gcd_64(a: u64, b: u64) -> u64
     x
 }
 
-/// The greatest common divisor, and 0 for 0 and 0. Steps on 128 bits are taken only until both numbers fit 64.
+/// The greatest common divisor, and 0 for 0 and 0. Steps on 128 bits are taken only until both
+/// numbers fit 64.
 pub fn gcd(a: u128, b: u128) -> u128
     ensures { result ≡ gcd_of a b }
 {
@@ -96,7 +97,8 @@ fn cmp_quotients(a: u128, b: u128, c: u128, d: u128) -> Ordering
     }
 }
 
-/// The order of n / b and m / d, whose numerators may be negative. No product of more than 128 bits is made.
+/// The order of n / b and m / d, whose numerators may be negative. No product of more than 128 bits
+/// is made.
 pub fn cmp_signed_quotients(n: i128, b: u128, m: i128, d: u128) -> Ordering
     requires left { 0 < b }
     requires right { 0 < d }

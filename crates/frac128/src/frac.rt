@@ -63,7 +63,8 @@ impl Eq for Frac {
     ghost laws = { Prim.search (comparing, rules) };
 }
 
-/// The numerator, with a `-` first where it is negative, and after `/` the denominator where that is not 1.
+/// The numerator, with a `-` first where it is negative, and after `/` the denominator where that
+/// is not 1.
 impl fmt::Display for Frac {
     ghost use Rattle.std.specs.Prelude.{Some};
     ghost use Rattle.rational.specs.Text.{number_text};

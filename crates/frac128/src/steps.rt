@@ -71,9 +71,9 @@ impl Frac {
     ///
     /// # Errors
     ///
-    /// The step, where it does not fit: with g the greatest common divisor of the denominators, where
-    /// one numerator times the other denominator over g, or the sum of the two products, or the
-    /// denominator of the sum in lowest terms does not lie from -(2^127 - 1) to 2^127 - 1.
+    /// The step, where it does not fit: with g the greatest common divisor of the denominators,
+    /// where one numerator times the other denominator over g, or the sum of the two products, or
+    /// the denominator of the sum in lowest terms does not lie from -(2^127 - 1) to 2^127 - 1.
     pub fn add(self, other: Frac) -> Result<Frac, Unfit>
         ensures value { IfOk result (λ f. f ≡ self +ℚ other) }
         ensures fits { OnOk result (AddFits self other) }

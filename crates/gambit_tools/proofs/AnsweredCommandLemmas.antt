@@ -1,12 +1,13 @@
 -- Each command has an answer over the contents of its inputs.
-use Rattle.std.proofs.Common.{ℕ, ◌<◌, ◌≡◌, ◌∷◌, Bool, true, false, List, [], length, slice_index_or, All, Ok, arith}
+use Rattle.std.proofs.Common.{ℕ, ◌<◌, ◌≡◌, ◌∷◌, Bool, true, false, List, [], length, replicate, slice_index_or, All, Ok, arith}
+use Rattle.std.proofs.lemmas.List.{length-replicate}
 use Rattle.std.proofs.lemmas.List.Elements.{All-cons, All-map, All-nil}
 use Rattle.answers.specs.Answers.{only, refuse_where, refused_by, ◌>>=◌, ◌>>◌}
 use Rattle.answers.specs.Answered.{IsAnswered}
 use Rattle.answers.proofs.AnsweredLemmas.{bind-answered, only-answered, refuse_where-answered, refused_by-answered}
 use Rattle.game_theory.specs.Recall.{AllRecall}
 use Rattle.game_theory.specs.Trees.{IsTree}
-use Rattle.game_core.specs.MadeTables.{made_game}
+use Rattle.game_core.specs.MadeTables.{made_table}
 use Rattle.game_core.specs.Table.{GameTable, IsTable, game_of as game_of_table}
 use Rattle.game_core.specs.Tree.{GameTree, IsGameTree}
 use Rattle.game_core.specs.TreeGame.{game_of_tree}
@@ -34,9 +35,9 @@ use Rattle.refusals.specs.Told.{check_refusal, choice_refusal, convert_refusal, 
 use Rattle.refusals.specs.declared.refusal.Refusal.TheVariants as refusal
 use Rattle.two_player_tools.specs.GameTypes.{IsGame}
 use Rattle.two_player_tools.specs.Perfect.{lcp_tool, lp_tool}
-use Rattle.two_player_tools.specs.StrategicForms.{strategic_form}
+use Rattle.two_player_tools.specs.StrategicForms.{strategic_table}
 use Rattle.two_player_tools.specs.TwoPlayers.{two_players}
-use Rattle.two_player_tools.proofs.StrategicFormLemmas.{strategic_form-table}
+use Rattle.two_player_tools.proofs.StrategicFormLemmas.{strategic_table-is_table}
 use Rattle.words.specs.Words.{Command, Enumpure, Enummixed, Lcp, Lp, Convert, Check, Make, IsWithinRanges}
 use Rattle.words.specs.declared.Layout.{Layout}
 use Rattle.words.specs.declared.Layout.TheVariants as layouts
@@ -56,7 +57,7 @@ pub record StagesAreAnswered : Type 0 where
   pub game_trees : (tree : GameTree) → IsGameTree tree → IsTree (game_of_tree tree)
   pub recalls : (tree : GameTree) → IsGameTree tree → IsAnswered (recall_of tree)
   pub forms : (tree : GameTree) → IsGameTree tree → IsAnswered (reduced_form_of tree)
-  pub strategic_forms : (game : Game) → IsGame game → IsAnswered (strategic_form game)
+  pub strategic_tables : (game : Game) → IsGame game → IsAnswered (strategic_table game)
   pub lp : (strategic prices perfect : Bool) (game : Game) → IsGame game → IsAnswered (lp_tool strategic prices perfect game)
   pub lcp : (strategic perfect : Bool) (game : Game) → IsGame game → IsAnswered (lcp_tool strategic perfect game)
   pub table_checks : TableChecksAreAnswered
@@ -68,9 +69,9 @@ some_strategies table valid = All-map (λ n. 0 < n) length table.strategies vali
 
 module _ (stages : StagesAreAnswered) where
   -- ---- the tool `enumpure`
-  table_lines-answered : (game : Game) → IsGame game → IsAnswered (strategic_form game >>= λ table. refused_by list_refusal (pure_text (game_of_table table)))
+  table_lines-answered : (game : Game) → IsGame game → IsAnswered (strategic_table game >>= λ table. refused_by list_refusal (pure_text (game_of_table table)))
   table_lines-answered game w =
-      bind-answered (strategic_form game) (λ table. refused_by list_refusal (pure_text (game_of_table table))) (stages.strategic_forms game w)
+      bind-answered (strategic_table game) (λ table. refused_by list_refusal (pure_text (game_of_table table))) (stages.strategic_tables game w)
       (λ table _. refused_by-answered list_refusal (pure_text (game_of_table table)) (pure_text-answered (game_of_table table)))
 
   choices-answered : (agents perfect : Bool) (tree : GameTree) → IsGameTree tree → IsAnswered (refused_by choice_refusal (passing_text agents perfect (game_of_tree tree)))
@@ -100,14 +101,16 @@ module _ (stages : StagesAreAnswered) where
 
   enummixed-answered : (all : Bool) (game : Game) → IsGame game → IsAnswered (enummixed all game)
   enummixed-answered all game w =
-      bind-answered (two_players game) (λ _. strategic_form game >>= table_text all) (refuse_where-answered _ _)
-      (λ _ _. bind-answered (strategic_form game) (table_text all) (stages.strategic_forms game w) (λ table h. table_text-answered all table (strategic_form-table game table w h)))
+      bind-answered (two_players game) (λ _. strategic_table game >>= table_text all) (refuse_where-answered _ _)
+      (λ _ _. bind-answered (strategic_table game) (table_text all) (stages.strategic_tables game w) (λ table h. table_text-answered all table (strategic_table-is_table game table w h)))
 
   make-answered : (number rows columns : ℕ) → 0 < rows → 0 < columns → IsAnswered (make number rows columns)
   make-answered number rows columns some other =
-      let g = made_game number rows columns in
+      let g = game_of_table (made_table number rows columns) in
+      let unnamed : List ℕ = [] in
       bind-answered (refused_by mixed_refusal (extreme_pairs g)) (λ pairs. only (counts_text pairs))
-      (refused_by-answered mixed_refusal (extreme_pairs g) (extreme_pairs-answered g (All-cons (λ n. 0 < n) rows (columns ∷ []) some (All-cons (λ n. 0 < n) columns [] other (All-nil (λ n. 0 < n))))))
+      (refused_by-answered mixed_refusal (extreme_pairs g) (extreme_pairs-answered g (All-cons (λ n. 0 < n) (length (replicate rows unnamed)) (length (replicate columns unnamed) ∷ []) (omega (arith, some, length-replicate rows unnamed))
+      (All-cons (λ n. 0 < n) (length (replicate columns unnamed)) [] (omega (arith, other, length-replicate columns unnamed)) (All-nil (λ n. 0 < n))))))
       (λ pairs _. only-answered (counts_text pairs))
 
   -- ---- the tool `convert`
@@ -117,14 +120,14 @@ module _ (stages : StagesAreAnswered) where
 
   convert-answered : (shape : Layout) (row column : ℕ) (game : Game) → IsGame game → IsAnswered (convert shape row column game)
   convert-answered shape row column game w =
-      bind-answered (strategic_form game) (λ table. refused_by convert_refusal (layout_in shape table row column)) (stages.strategic_forms game w)
+      bind-answered (strategic_table game) (λ table. refused_by convert_refusal (layout_in shape table row column)) (stages.strategic_tables game w)
       (λ table _. refused_by-answered convert_refusal (layout_in shape table row column) (layout_in-answered shape table row column))
 
   -- ---- the tool `check`
-  strategic-answered : (game : Game) (lines : List ℕ) → IsGame game → IsAnswered (strategic_form game >>= λ table. refused_by check_refusal (table_check table lines))
+  strategic-answered : (game : Game) (lines : List ℕ) → IsGame game → IsAnswered (strategic_table game >>= λ table. refused_by check_refusal (table_check table lines))
   strategic-answered game lines w =
-      bind-answered (strategic_form game) (λ table. refused_by check_refusal (table_check table lines)) (stages.strategic_forms game w)
-      (λ table h. refused_by-answered check_refusal (table_check table lines) (stages.table_checks table lines (strategic_form-table game table w h)))
+      bind-answered (strategic_table game) (λ table. refused_by check_refusal (table_check table lines)) (stages.strategic_tables game w)
+      (λ table h. refused_by-answered check_refusal (table_check table lines) (stages.table_checks table lines (strategic_table-is_table game table w h)))
 
   verdicts-answered : (strategic : Bool) (game : Game) (lines : List ℕ) → IsGame game → IsAnswered (verdicts strategic game lines)
   verdicts-answered true (Strategic table) lines w = strategic-answered (Strategic table) lines w

@@ -31,13 +31,13 @@ use Rattle.perfect_recall.specs.Found.{recall_of}
 use Rattle.refusals.specs.Told.{check_refusal, recall_refusal}
 use Rattle.refusals.specs.declared.refusal.Refusal.{Refusal}
 use Rattle.refusals.specs.declared.refusal.Refusal.TheVariants as refusal
-use Rattle.two_player_tools.specs.StrategicForms.{strategic_form}
-use Rattle.two_player_tools.proofs.StrategicFormLemmas.{strategic_form-single}
+use Rattle.two_player_tools.specs.StrategicForms.{strategic_table}
+use Rattle.two_player_tools.proofs.StrategicFormLemmas.{strategic_table-single}
 use Rattle.gambit_tools.specs.Check.{check, verdicts}
 use Rattle.two_player_tools.specs.GameTypes.{IsGame}
 use Rattle.gambit_tools.specs.Games.{game_in, within_bytes}
 use Rattle.gambit_tools.specs.Input.{most_bytes}
-use Rattle.gambit_tools.proofs.FormContentLemmas.{AreContents, AreReasons, IsOfContents, inner-reasons, only-reasons, recall-contents, strategic_form-contents, then-contents, then-reasons, told-contents}
+use Rattle.gambit_tools.proofs.FormContentLemmas.{AreContents, AreReasons, IsOfContents, inner-reasons, only-reasons, recall-contents, strategic_table-contents, then-contents, then-reasons, told-contents}
 use Rattle.two_player_tools.proofs.FormSingleLemmas.{RecallsAreSingle}
 use Rattle.game_theory.specs.OwnSets.{action_counts}
 use Rattle.gambit_tools.proofs.ReadGameLemmas.{game_in-valid}
@@ -116,9 +116,9 @@ tree_check-reasons : (tree : GameTree) (text : List ℕ) → AreReasons check_re
 tree_check-reasons tree text =
     then-reasons check_refusal (lines_answer (tree_line tree) 1 (lines_of text)) limited (lines-reasons (tree_line tree) (tree_line-reasons tree) 1 (lines_of text)) limited-reasons
 
-strategic-contents : (game : Game) (lines : List ℕ) → AreContents (strategic_form game >>= λ table. refused_by check_refusal (table_check table lines))
+strategic-contents : (game : Game) (lines : List ℕ) → AreContents (strategic_table game >>= λ table. refused_by check_refusal (table_check table lines))
 strategic-contents game lines =
-    then-contents (strategic_form game) (λ table. refused_by check_refusal (table_check table lines)) (strategic_form-contents game)
+    then-contents (strategic_table game) (λ table. refused_by check_refusal (table_check table lines)) (strategic_table-contents game)
     (λ table. told-contents check_refusal (table_check table lines) (table_check-reasons table lines))
 
 pub verdicts-contents : (strategic : Bool) (game : Game) (lines : List ℕ) (r : Refusal) → verdicts strategic game lines (Err r) → IsOfContents r
@@ -135,9 +135,9 @@ pub record ChecksAreSingle : Type 0 where
   pub tables : TableChecksAreSingle
   pub trees : TreeChecksAreSingle
 
-strategic-single : ChecksAreSingle → (game : Game) (lines : List ℕ) → IsSingle (strategic_form game >>= λ table. refused_by check_refusal (table_check table lines))
+strategic-single : ChecksAreSingle → (game : Game) (lines : List ℕ) → IsSingle (strategic_table game >>= λ table. refused_by check_refusal (table_check table lines))
 strategic-single checks game lines =
-    bind-single (strategic_form game) (λ table. refused_by check_refusal (table_check table lines)) (strategic_form-single game)
+    bind-single (strategic_table game) (λ table. refused_by check_refusal (table_check table lines)) (strategic_table-single game)
     (λ table _. refused_by-single check_refusal (table_check table lines) (checks.tables table lines))
 
 verdicts-single : RecallsAreSingle → ChecksAreSingle → (strategic : Bool) (game : Game) (lines : List ℕ) → IsGame game → IsSingle (verdicts strategic game lines)

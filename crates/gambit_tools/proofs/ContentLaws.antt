@@ -33,14 +33,14 @@ use Rattle.enumpure_trees.specs.PassingStops.{passing_text}
 use Rattle.enumpure_trees.specs.Values.{value_indices, value_steps}
 use Rattle.enumpure_trees.specs.declared.stop.ChoiceStop.{ChoiceStop}
 use Rattle.enumpure_trees.specs.declared.stop.ChoiceStop.TheVariants as choice_stop
-use Rattle.two_player_tools.specs.StrategicForms.{strategic_form}
+use Rattle.two_player_tools.specs.StrategicForms.{strategic_table}
 use Rattle.gambit_tools.specs.Games.{game_of_tokens, game_in}
 use Rattle.gambit_tools.specs.Enumpure.{enumpure, tree_answer}
 use Rattle.gambit_tools.specs.Commands.{tool_of}
 use Rattle.refusals.specs.declared.refusal.Refusal.{Refusal}
 use Rattle.refusals.specs.declared.refusal.Refusal.TheVariants as refusal
 use Rattle.gambit_tools.proofs.ConvertLaws.{convert-contents}
-use Rattle.gambit_tools.proofs.FormContentLemmas.{AreContents, IsOfContents, fitting-reasons, form-contents, strategic_form-contents, then-contents, told-contents}
+use Rattle.gambit_tools.proofs.FormContentLemmas.{AreContents, IsOfContents, fitting-reasons, form-contents, strategic_table-contents, then-contents, told-contents}
 use Rattle.gambit_tools.proofs.MixedContentLemmas.{enummixed-contents}
 use Rattle.gambit_tools.proofs.PerfectContentLemmas.{lcp_tool-contents, lp_tool-contents}
 
@@ -88,9 +88,9 @@ pub game_in-too_long : (bytes : List ℕ) → most_bytes < length bytes → game
 game_in-too_long bytes long = inl (inl (long, refl))
 
 -- ---- the tool `enumpure`
-table_text-contents : (game : Game) → AreContents (strategic_form game >>= λ table. refused_by list_refusal (pure_text (game_of table)))
+table_text-contents : (game : Game) → AreContents (strategic_table game >>= λ table. refused_by list_refusal (pure_text (game_of table)))
 table_text-contents game =
-    then-contents (strategic_form game) (λ table. refused_by list_refusal (pure_text (game_of table))) (strategic_form-contents game)
+    then-contents (strategic_table game) (λ table. refused_by list_refusal (pure_text (game_of table))) (strategic_table-contents game)
     (λ table. told-contents list_refusal (pure_text (game_of table)) (list-contents _))
 
 choice-contents : (agents perfect : Bool) (t : Tree) (stop : ChoiceStop) → passing_text agents perfect t (Err stop) → IsOfContents (choice_refusal stop)

@@ -15,13 +15,13 @@ use Rattle.convert_tables.proofs.OneLayoutLaws.{laid_out-single}
 use Rattle.game_core.specs.Limits.{limited_text}
 use Rattle.refusals.specs.Told.{convert_refusal}
 use Rattle.refusals.specs.declared.refusal.Refusal.{Refusal}
-use Rattle.two_player_tools.specs.StrategicForms.{strategic_form}
-use Rattle.two_player_tools.proofs.StrategicFormLemmas.{strategic_form-single}
+use Rattle.two_player_tools.specs.StrategicForms.{strategic_table}
+use Rattle.two_player_tools.proofs.StrategicFormLemmas.{strategic_table-single}
 use Rattle.words.specs.declared.Layout.{Layout}
 use Rattle.words.specs.declared.Layout.TheVariants as layouts
 use Rattle.game_core.proofs.LimitLemmas.{text-same}
 use Rattle.gambit_tools.specs.Convert.{IsLayoutText, convert, layout_in, style_of}
-use Rattle.gambit_tools.proofs.FormContentLemmas.{AreReasons, IsOfContents, inner-reasons, strategic_form-contents, then-contents, then-reasons, told-contents, where-reasons}
+use Rattle.gambit_tools.proofs.FormContentLemmas.{AreReasons, IsOfContents, inner-reasons, strategic_table-contents, then-contents, then-reasons, told-contents, where-reasons}
 
 -- ---- what the text is
 -- a number that is not no player's is a player's
@@ -31,7 +31,7 @@ player-is table number h = elim (cases_lt 0 number) [
   | inr none ↦ absurd (h (λ p. omega (arith, p.0, none)))
 ]
 
-laid_out-is : (shape : Layout) (table : GameTable) (row column : ℕ) (game : Game) (text : List ℕ) → strategic_form game (Ok table) → laid_out (style_of shape) table row column (Ok text) → IsLayoutText shape row column game text
+laid_out-is : (shape : Layout) (table : GameTable) (row column : ℕ) (game : Game) (text : List ℕ) → strategic_table game (Ok table) → laid_out (style_of shape) table row column (Ok text) → IsLayoutText shape row column game text
 laid_out-is shape table row column game text form h = record {
   table = table;
   is_form = form;
@@ -53,7 +53,7 @@ layout_in-single layouts.Sgame table row column = laid_out-single Sgame table ro
 
 pub convert-single : (shape : Layout) (row column : ℕ) (game : Game) → IsSingle (convert shape row column game)
 convert-single shape row column game =
-    bind-single (strategic_form game) (λ table. refused_by convert_refusal (layout_in shape table row column)) (strategic_form-single game)
+    bind-single (strategic_table game) (λ table. refused_by convert_refusal (layout_in shape table row column)) (strategic_table-single game)
     (λ table _. refused_by-single convert_refusal (layout_in shape table row column) (layout_in-single shape table row column))
 
 -- ---- contents
@@ -76,5 +76,5 @@ layout_in-reasons layouts.Sgame table row column = laid_out-reasons Sgame table 
 
 pub convert-contents : (shape : Layout) (row column : ℕ) (game : Game) (r : Refusal) → convert shape row column game (Err r) → IsOfContents r
 convert-contents shape row column game =
-    then-contents (strategic_form game) (λ table. refused_by convert_refusal (layout_in shape table row column)) (strategic_form-contents game)
+    then-contents (strategic_table game) (λ table. refused_by convert_refusal (layout_in shape table row column)) (strategic_table-contents game)
     (λ table. told-contents convert_refusal (layout_in shape table row column) (layout_in-reasons shape table row column))

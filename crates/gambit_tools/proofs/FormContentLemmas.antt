@@ -35,8 +35,8 @@ use Rattle.sequence_data.specs.declared.sizes.Counts.{Counts}
 use Rattle.two_player_tools.specs.Entries.{entries_in, plans_line}
 use Rattle.gambit_tools.specs.Laws.{FaultNamesStep}
 use Rattle.gambit_tools.specs.Origins.{Contents, origin}
-use Rattle.two_player_tools.specs.StrategicForms.{strategic_form}
-use Rattle.two_player_tools.specs.TwoPlayers.{form_in, form_of_table, form_of_tree, table_counts, tree_counts, two_players}
+use Rattle.two_player_tools.specs.StrategicForms.{strategic_table}
+use Rattle.two_player_tools.specs.TwoPlayers.{form_in, table_form_within, tree_form_within, table_counts, tree_counts, two_players}
 use Rattle.refusals.specs.Told.{behaviour_refusal, form_refusal, recall_refusal, sequence_refusal}
 use Rattle.refusals.specs.declared.refusal.Refusal.{Refusal}
 use Rattle.refusals.specs.declared.refusal.Refusal.TheVariants as refusal
@@ -149,31 +149,31 @@ pub two_players-contents : (game : Game) → AreContents (two_players game)
 two_players-contents game = where-contents _ _ (λ _. refl)
 
 -- ---- the form
-pub strategic_form-contents : (game : Game) → AreContents (strategic_form game)
-strategic_form-contents (Strategic table) = only-contents table
-strategic_form-contents (Extensive tree) =
+pub strategic_table-contents : (game : Game) → AreContents (strategic_table game)
+strategic_table-contents (Strategic table) = only-contents table
+strategic_table-contents (Extensive tree) =
     then-contents (refused_by form_refusal (reduced_form_of tree)) (λ form. only form.table) (told-contents form_refusal (reduced_form_of tree) (form-contents tree)) (λ form. only-contents form.table)
 
-form_of_table-contents : (rows : Counts → ℕ) (t : GameTable) → AreContents (form_of_table rows t)
-form_of_table-contents rows t =
+table_form_within-contents : (rows : Counts → ℕ) (t : GameTable) → AreContents (table_form_within rows t)
+table_form_within-contents rows t =
     then-contents (refused_by refusal.TooLarge (within what.Rows most_rows (rows (table_counts t)))) (λ _. refused_by sequence_refusal (table_form t))
     (told-contents refusal.TooLarge (within what.Rows most_rows (rows (table_counts t))) (λ stop h. refl)) (λ _. told-contents sequence_refusal (table_form t) (table_form-contents t))
 
-form_of_tree-contents : (rows : Counts → ℕ) (t : GameTree) → AreContents (form_of_tree rows t)
-form_of_tree-contents rows t =
+tree_form_within-contents : (rows : Counts → ℕ) (t : GameTree) → AreContents (tree_form_within rows t)
+tree_form_within-contents rows t =
     then-contents (refused_by recall_refusal (recall_of t)) (λ _. refused_by refusal.TooLarge (within what.Rows most_rows (rows (tree_counts t))) >> refused_by sequence_refusal (tree_form t))
     (told-contents recall_refusal (recall_of t) (recall-contents t))
     (λ _. then-contents (refused_by refusal.TooLarge (within what.Rows most_rows (rows (tree_counts t)))) (λ _. refused_by sequence_refusal (tree_form t))
     (told-contents refusal.TooLarge (within what.Rows most_rows (rows (tree_counts t))) (λ stop h. refl)) (λ _. told-contents sequence_refusal (tree_form t) (tree_form-contents t)))
 
-strategic-contents : (rows : Counts → ℕ) (game : Game) → AreContents (strategic_form game >>= form_of_table rows)
-strategic-contents rows game = then-contents (strategic_form game) (form_of_table rows) (strategic_form-contents game) (form_of_table-contents rows)
+strategic-contents : (rows : Counts → ℕ) (game : Game) → AreContents (strategic_table game >>= table_form_within rows)
+strategic-contents rows game = then-contents (strategic_table game) (table_form_within rows) (strategic_table-contents game) (table_form_within-contents rows)
 
 pub form_in-contents : (rows : Counts → ℕ) (strategic : Bool) (game : Game) → AreContents (form_in rows strategic game)
 form_in-contents rows true (Strategic t) = strategic-contents rows (Strategic t)
 form_in-contents rows false (Strategic t) = strategic-contents rows (Strategic t)
 form_in-contents rows true (Extensive t) = strategic-contents rows (Extensive t)
-form_in-contents rows false (Extensive t) = form_of_tree-contents rows t
+form_in-contents rows false (Extensive t) = tree_form_within-contents rows t
 
 -- ---- the line
 pub entries-contents : (strategic : Bool) (game : Game) (one two : List ℚ) → AreContents (entries_in strategic game one two)

@@ -4,7 +4,8 @@ use Rattle.answers.specs.Answers.{Gives, IsSingle, map_ok, only, refused_by}
 use Rattle.answers.proofs.AnswerLemmas.{bind-single, only-single, refused_by-single}
 use Rattle.outside.specs.Inputs.{InputsSeen}
 use Rattle.words.specs.Words.{Make}
-use Rattle.game_core.specs.MadeTables.{made_game}
+use Rattle.game_core.specs.MadeTables.{made_table}
+use Rattle.game_core.specs.Table.{game_of}
 use Rattle.enummixed.specs.ExtremeText.{extreme_pairs}
 use Rattle.enummixed.proofs.VertexPairLemmas.{pairs-single}
 use Rattle.refusals.specs.Told.{mixed_refusal}
@@ -18,13 +19,13 @@ use Rattle.gambit_tools.proofs.MixedContentLemmas.{pairs-contents}
 
 pub make-single : (number rows columns : ℕ) → IsSingle (make number rows columns)
 make-single number rows columns =
-    let g = made_game number rows columns in
+    let g = game_of (made_table number rows columns) in
     bind-single (refused_by mixed_refusal (extreme_pairs g)) (λ pairs. only (counts_text pairs))
     (refused_by-single mixed_refusal (extreme_pairs g) (pairs-single g)) (λ pairs _. only-single (counts_text pairs))
 
 pub make-contents : (number rows columns : ℕ) → AreContents (make number rows columns)
 make-contents number rows columns =
-    let g = made_game number rows columns in
+    let g = game_of (made_table number rows columns) in
     then-contents (refused_by mixed_refusal (extreme_pairs g)) (λ pairs. only (counts_text pairs))
     (told-contents mixed_refusal (extreme_pairs g) (pairs-contents g)) (λ pairs. only-contents (counts_text pairs))
 

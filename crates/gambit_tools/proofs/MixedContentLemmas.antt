@@ -33,9 +33,9 @@ use Rattle.enummixed.specs.Used.{all_labels, occurs, used_points, scaling_in}
 use Rattle.refusals.specs.Told.{kept_refusal, mixed_refusal}
 use Rattle.refusals.specs.declared.refusal.Refusal.{Refusal}
 use Rattle.gambit_tools.specs.Enummixed.{enummixed, table_text}
-use Rattle.two_player_tools.specs.StrategicForms.{strategic_form}
+use Rattle.two_player_tools.specs.StrategicForms.{strategic_table}
 use Rattle.two_player_tools.specs.TwoPlayers.{two_players}
-use Rattle.gambit_tools.proofs.FormContentLemmas.{AreContents, AreReasons, IsOfContents, inner-reasons, only-reasons, strategic_form-contents, then-contents, then-reasons, told-contents, two_players-contents}
+use Rattle.gambit_tools.proofs.FormContentLemmas.{AreContents, AreReasons, IsOfContents, inner-reasons, only-reasons, strategic_table-contents, then-contents, then-reasons, told-contents, two_players-contents}
 
 -- ---- stages of the enumeration
 shift-reasons : (g : TableGame) (i : ℕ) (stop : PolyStop) → shift_in g i (Err stop) → IsOfContents (mixed_refusal (polytopes_stop stop))
@@ -121,5 +121,5 @@ table_text-contents false table =
 
 pub enummixed-contents : (all : Bool) (game : Game) (r : Refusal) → enummixed all game (Err r) → IsOfContents r
 enummixed-contents all game =
-    then-contents (two_players game) (λ _. strategic_form game >>= table_text all) (two_players-contents game)
-    (λ _. then-contents (strategic_form game) (table_text all) (strategic_form-contents game) (table_text-contents all))
+    then-contents (two_players game) (λ _. strategic_table game >>= table_text all) (two_players-contents game)
+    (λ _. then-contents (strategic_table game) (table_text all) (strategic_table-contents game) (table_text-contents all))

@@ -10,8 +10,8 @@ use Rattle.enummixed.specs.ExtremeText.{extreme_text, kept_text}
 use Rattle.enummixed.proofs.VertexPairLemmas.{texts-single}
 use Rattle.refusals.specs.Told.{kept_refusal, mixed_refusal}
 use Rattle.gambit_tools.specs.Enummixed.{enummixed, table_text}
-use Rattle.two_player_tools.specs.StrategicForms.{strategic_form}
-use Rattle.two_player_tools.proofs.StrategicFormLemmas.{strategic_form-single}
+use Rattle.two_player_tools.specs.StrategicForms.{strategic_table}
+use Rattle.two_player_tools.proofs.StrategicFormLemmas.{strategic_table-single}
 use Rattle.two_player_tools.specs.TwoPlayers.{two_players}
 use Rattle.two_player_tools.proofs.FormSingleLemmas.{two_players-single}
 
@@ -24,5 +24,5 @@ table_text-single false table =
 
 pub enummixed-single : (all : Bool) (game : Game) → IsSingle (enummixed all game)
 enummixed-single all game =
-    bind-single (two_players game) (λ _. strategic_form game >>= table_text all) (two_players-single game)
-    (λ _ _. bind-single (strategic_form game) (table_text all) (strategic_form-single game) (λ table _. table_text-single all table))
+    bind-single (two_players game) (λ _. strategic_table game >>= table_text all) (two_players-single game)
+    (λ _ _. bind-single (strategic_table game) (table_text all) (strategic_table-single game) (λ table _. table_text-single all table))

@@ -22,7 +22,7 @@ use Rattle.refusals.specs.declared.refusal.Refusal.{Refusal}
 use Rattle.refusals.specs.declared.refusal.Refusal.TheVariants as refusal
 use Rattle.two_player_tools.specs.Lp.{solution_in}
 use Rattle.two_player_tools.specs.Perfect.{cut_entries_in, entries_by, in_subgame, lcp_tool, lp_tool, entry_payoffs_fit, perfect_in, perfect_text, plans_by, worth_refusal}
-use Rattle.two_player_tools.specs.TwoPlayers.{form_of_tree, rows_by, two_players}
+use Rattle.two_player_tools.specs.TwoPlayers.{tree_form_within, rows_by, two_players}
 use Rattle.two_player_tools.specs.declared.forms.Method.{Method}
 use Rattle.two_player_tools.specs.declared.forms.Method.TheVariants.{LinearProgram, Complementarity}
 use Rattle.gambit_tools.proofs.FormContentLemmas.{AreContents, IsOfContents, behaviour-contents, fitting-reasons, form_in-contents, only-contents, recall-contents, then-contents, told-contents, two_players-contents}
@@ -37,7 +37,7 @@ plans-contents Complementarity form = equilibrium-contents form
 entries_by-contents : (method : Method) (t : GameTree) → AreContents (entries_by method t)
 entries_by-contents method t =
     let line = λ (plans : PlanPair). refused_by behaviour_refusal (plan_behaviour t plans.one plans.two) in
-    then-contents (form_of_tree (rows_by method) t) (λ form. plans_by method form >>= line) (form_in-contents (rows_by method) false (Extensive t))
+    then-contents (tree_form_within (rows_by method) t) (λ form. plans_by method form >>= line) (form_in-contents (rows_by method) false (Extensive t))
     (λ form. then-contents (plans_by method form) line (plans-contents method form)
     (λ plans. told-contents behaviour_refusal (plan_behaviour t plans.one plans.two) (behaviour-contents t plans.one plans.two)))
 

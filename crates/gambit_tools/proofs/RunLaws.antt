@@ -1,5 +1,5 @@
 -- Runs: from the computed text to what is told, and that they are exact.
-use Rattle.std.proofs.Common.{ℕ, ◌≡◌, ◌<◌, ◌⊎◌, ◌∙◌, inl, inr, sym, ap, subst, refl, List, [], ◌∷◌, Contains, Option, None, Some, Result, Ok, Err}
+use Rattle.std.proofs.Common.{ℕ, ◌≡◌, ◌<◌, ◌⊎◌, ◌∙◌, inl, inr, sym, ap, subst, refl, List, [], ◌∷◌, Contains, Option, None, Some, Result, Ok, Err, true}
 use Rattle.std.specs.Result.{result_err}
 use Rattle.std.proofs.lemmas.Option.{same_Some}
 use Rattle.answers.proofs.AnswerLemmas.{err_same}
@@ -7,6 +7,7 @@ use Rattle.answers.specs.Answers.{IsSingle, map_ok}
 use Rattle.lists.proofs.ElementLemmas.{first_in, rest_in}
 use Rattle.lists.proofs.OptionLemmas.{some-none}
 use Rattle.outside.specs.Inputs.{InputName, InputsSeen}
+use Rattle.outside.specs.Sink.{Takes}
 use Rattle.words.specs.Words.{Command, command_from}
 use Rattle.words.specs.declared.Usage.{Usage}
 use Rattle.gambit_tools.specs.Seen.{Outside, Seen, but_for_err}
@@ -159,13 +160,14 @@ outcome-told single words before after (Err q) view r told status e h counts fau
     })
 
 -- what is not refused is answered
-unrefused : (command : Command) (contents : List (List ℕ)) (answer : RunAnswer) (status : ℕ) → status ≡ run_status (result_err answer) → answer_of command contents answer → ((r : Refusal) → ¬ (answer_of command contents (Err r))) → (status ≡ 0) ⊎ (status ≡ 5)
-unrefused command contents (Ok text) status e g none = inl e
-unrefused command contents (Err r) status e g none = absurd (none r g)
+unrefused : (command : Command) (contents : List (List ℕ)) (before after : Outside) (answer : RunAnswer) (status : ℕ) → status ≡ run_status (result_err answer) → IsCommandRun command before after answer → answer_of command contents answer → ((r : Refusal) → ¬ (answer_of command contents (Err r)))
+    → (status ≡ 5) ⊎ ((status ≡ 0) × (text : List ℕ) × answer_of command contents (Ok text) × Takes before.out.taken after.out.taken text × (after.out.flushed ≡ true))
+unrefused command contents before after (Ok text) status e run g none = inr (e, text, g, run.ends.1, run.ends.2)
+unrefused command contents before after (Err r) status e run g none = absurd (none r g)
 
 pub outcome-complete : (words : List (List ℕ)) (before after : Seen) (status : ℕ) (answer : RunAnswer) → IsToldRun words before after status answer → IsComplete words (but_for_err before) (but_for_err after) status
 outcome-complete words before after status answer o command e contents told none not_refused =
     elim (o.is_exact command e contents told none) [
-      | inl m ↦ inr (o.status_is ∙ ap (λ x. run_status (result_err x)) m)
-      | inr g ↦ unrefused command contents answer status o.status_is g.0 not_refused
+      | inl m ↦ inl (o.status_is ∙ ap (λ x. run_status (result_err x)) m)
+      | inr g ↦ unrefused command contents (but_for_err before) (but_for_err after) answer status o.status_is (subst (λ w. IsRunOf w (but_for_err before) (but_for_err after) answer) e o.is_run) g.0 not_refused
     ]

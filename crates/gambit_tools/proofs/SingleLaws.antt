@@ -20,8 +20,8 @@ use Rattle.enumpure_trees.proofs.OneTextLaws.{passing_text-single}
 use Rattle.refusals.specs.Told.{choice_refusal, form_refusal, list_refusal}
 use Rattle.two_player_tools.specs.GameTypes.{IsGame}
 use Rattle.two_player_tools.specs.Perfect.{lcp_tool, lp_tool}
-use Rattle.two_player_tools.specs.StrategicForms.{strategic_form}
-use Rattle.two_player_tools.proofs.StrategicFormLemmas.{strategic_form-single}
+use Rattle.two_player_tools.specs.StrategicForms.{strategic_table}
+use Rattle.two_player_tools.proofs.StrategicFormLemmas.{strategic_table-single}
 use Rattle.gambit_tools.specs.Games.{game_in}
 use Rattle.gambit_tools.specs.Enumpure.{enumpure, tree_answer}
 use Rattle.gambit_tools.specs.Commands.{tool_of, game_answer, answer_of}
@@ -34,9 +34,9 @@ use Rattle.gambit_tools.proofs.MakeLaws.{make-single}
 use Rattle.gambit_tools.proofs.MixedSingleLemmas.{enummixed-single}
 
 -- ---- the tool `enumpure`
-table_text-single : (game : Game) → IsSingle (strategic_form game >>= λ table. refused_by list_refusal (pure_text (game_of_table table)))
+table_text-single : (game : Game) → IsSingle (strategic_table game >>= λ table. refused_by list_refusal (pure_text (game_of_table table)))
 table_text-single game =
-    bind-single (strategic_form game) (λ table. refused_by list_refusal (pure_text (game_of_table table))) (strategic_form-single game)
+    bind-single (strategic_table game) (λ table. refused_by list_refusal (pure_text (game_of_table table))) (strategic_table-single game)
     (λ table _. refused_by-single list_refusal (pure_text (game_of_table table)) (pure_text-single (game_of_table table)))
 
 choices-single : (agents perfect : Bool) (tree : GameTree) → IsSingle (refused_by choice_refusal (passing_text agents perfect (game_of_tree tree)))

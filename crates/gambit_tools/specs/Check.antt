@@ -11,7 +11,7 @@ use Rattle.perfect_recall.specs.Found.{recall_of}
 use Rattle.gambit_tools.specs.Games.{game_in, within_bytes}
 use Rattle.refusals.specs.Told.{check_refusal, recall_refusal}
 use Rattle.refusals.specs.declared.refusal.Refusal.{Refusal}
-use Rattle.two_player_tools.specs.StrategicForms.{strategic_form}
+use Rattle.two_player_tools.specs.StrategicForms.{strategic_table}
 
 -- The verdicts of the lines on the game's strategic form; but on a tree by behaviour, where all
 -- players recall, unless strategies are asked for.
@@ -20,7 +20,7 @@ verdicts false (Extensive tree) lines = do
   refused_by recall_refusal (recall_of tree)
   refused_by check_refusal (tree_check tree lines)
 verdicts _ game lines = do
-  table ← strategic_form game
+  table ← strategic_table game
   refused_by check_refusal (table_check table lines)
 
 -- the answer of `check` for the bytes of a game and for those of the lines
@@ -38,5 +38,5 @@ abbrev pub IsCheckText : Bool → Game → (lines text : List ℕ) → Type 0
 IsCheckText false (Extensive tree) lines text =
     TellsOfLines (TellsOfTreeLine tree) (lines_of lines) text
 IsCheckText _ game lines text =
-    (table : GameTable) × strategic_form game (Ok table)
+    (table : GameTable) × strategic_table game (Ok table)
     × TellsOfLines (TellsOfTableLine table) (lines_of lines) text

@@ -10,7 +10,7 @@ use Rattle.convert_tables.specs.declared.marks.Style.TheVariants as style
 use Rattle.convert_tables.specs.declared.stops.ConvertStop.{ConvertStop}
 use Rattle.refusals.specs.Told.{convert_refusal}
 use Rattle.refusals.specs.declared.refusal.Refusal.{Refusal}
-use Rattle.two_player_tools.specs.StrategicForms.{strategic_form}
+use Rattle.two_player_tools.specs.StrategicForms.{strategic_table}
 use Rattle.words.specs.declared.Layout.{Layout}
 use Rattle.words.specs.declared.Layout.TheVariants.{Html, Sgame}
 
@@ -22,7 +22,7 @@ layout_in Sgame = sgame_text
 -- the answer of `convert`
 abbrev pub convert : Layout → (row column : ℕ) → Game → Answer Refusal (List ℕ)
 convert layout row column game = do
-  table ← strategic_form game
+  table ← strategic_table game
   refused_by convert_refusal (layout_in layout table row column)
 
 -- the style of a layout
@@ -34,7 +34,7 @@ style_of Sgame = style.Sgame
 -- numbered from 1
 pub record IsLayoutText (shape : Layout) (row column : ℕ) (game : Game) (text : List ℕ) : Type 0 where
   pub table : GameTable
-  pub is_form : strategic_form game (Ok table)
+  pub is_form : strategic_table game (Ok table)
   pub row_is_player : IsPlayer table row
   pub column_is_player : IsPlayer table column
   pub apart : row ≢ column

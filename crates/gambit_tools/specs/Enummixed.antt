@@ -6,7 +6,7 @@ use Rattle.game_core.specs.Table.{GameTable, game_of}
 use Rattle.game_core.specs.declared.game.Game.{Game}
 use Rattle.kept_strategies.specs.Kept.{kept_of}
 use Rattle.enummixed.specs.ExtremeText.{IsExtremeEquilibriaText, extreme_text, kept_text}
-use Rattle.two_player_tools.specs.StrategicForms.{strategic_form}
+use Rattle.two_player_tools.specs.StrategicForms.{strategic_table}
 use Rattle.two_player_tools.specs.TwoPlayers.{two_players}
 use Rattle.refusals.specs.Told.{kept_refusal, mixed_refusal}
 use Rattle.refusals.specs.declared.refusal.Refusal.{Refusal}
@@ -23,7 +23,7 @@ table_text false table = do
 abbrev pub enummixed : Bool → Game → Answer Refusal (List ℕ)
 enummixed all game = do
   two_players game
-  table ← strategic_form game
+  table ← strategic_table game
   table_text all table
 
 -- ---- what each text is
@@ -31,7 +31,7 @@ enummixed all game = do
 -- a text has the lines of exactly the extreme equilibria of the game's strategic form, in order
 pub record IsExtremeText (game : Game) (text : List ℕ) : Type 0 where
   pub table : GameTable
-  pub is_form : strategic_form game (Ok table)
+  pub is_form : strategic_table game (Ok table)
   pub is_text : IsExtremeEquilibriaText (game_of table) text
 
 -- Each text of `enummixed` is so.

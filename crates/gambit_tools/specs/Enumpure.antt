@@ -17,7 +17,7 @@ use Rattle.refusals.specs.Told.{choice_refusal, form_refusal, list_refusal}
 use Rattle.refusals.specs.declared.refusal.Refusal.{Refusal}
 use Rattle.enumpure_trees.specs.PassingStops.{passing_text}
 use Rattle.enumpure_trees.specs.PassingText.{IsPassingText}
-use Rattle.two_player_tools.specs.StrategicForms.{strategic_form}
+use Rattle.two_player_tools.specs.StrategicForms.{strategic_table}
 
 -- The answer for a tree as behaviour: its pure equilibria; but where the agent form or subgames are
 -- asked for, the choices of one action at each player's set that pass.
@@ -33,7 +33,7 @@ tree_answer agents perfect tree =
 abbrev pub enumpure : (strategic agents perfect : Bool) → Game → Answer Refusal (List ℕ)
 enumpure false agents perfect (Extensive tree) = tree_answer agents perfect tree
 enumpure _ agents perfect game = do
-  table ← strategic_form game
+  table ← strategic_table game
   refused_by list_refusal (pure_text (game_of table))
 
 -- ---- what each text is
@@ -50,4 +50,4 @@ IsTreeText agents perfect tree text = IsPassingText agents perfect (game_of_tree
 abbrev pub IsPureText : (strategic agents perfect : Bool) → Game → List ℕ → Type 0
 IsPureText false agents perfect (Extensive tree) text = IsTreeText agents perfect tree text
 IsPureText _ agents perfect game text =
-    (table : GameTable) × strategic_form game (Ok table) × IsPureEquilibriaText (game_of table) text
+    (table : GameTable) × strategic_table game (Ok table) × IsPureEquilibriaText (game_of table) text

@@ -21,7 +21,8 @@ pub record IsReadToEnd (name : InputName) (after : InputsSeen) : Type 0 where
   pub end_met : after.at_end ≡ true
   pub at_end : IsAtEnd after.left
 
--- one byte more than an input may have was read, and no further one
+-- the input is selected; where bytes are told, one more than an input may have was read, and no
+-- further one
 pub record IsReadTooFar (name : InputName) (before after : InputsSeen) : Type 0 where
   pub selected : after.selected ≡ Some name
   pub taken : List ℕ

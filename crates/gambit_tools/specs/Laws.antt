@@ -3,7 +3,8 @@
 use Rattle.std.specs.Prelude.{ℕ, ◌≡◌, Bool, List, [], ◌∷◌, Ok, Err}
 use Rattle.frac128.specs.Steps.{Step, StepFits}
 use Rattle.game_core.specs.declared.game.Game.{Game}
-use Rattle.game_core.specs.MadeTables.{made_game}
+use Rattle.game_core.specs.MadeTables.{made_table}
+use Rattle.game_core.specs.Table.{game_of}
 use Rattle.outside.specs.Inputs.{InputName}
 use Rattle.tree_grammar.specs.declared.kinds.EfgKind.{EfgKind}
 use Rattle.tree_grammar.specs.declared.kinds.EfgKind.TheVariants as efg_kind
@@ -22,8 +23,9 @@ use Rattle.refusals.specs.declared.refusal.Refusal.{Refusal}
 use Rattle.refusals.specs.declared.refusal.Refusal.TheVariants as refusal
 
 -- Each text of `enumpure` lists the pure equilibria, or with `-A` or `-P` on a tree the choices that pass; that of
--- `enummixed` lists the extreme ones, that of `lcp` is an equilibrium, that of `lp` a solution, that of `convert` the
--- layout of the strategic form, that of `check` tells of each line, and that of `make` counts.
+-- `enummixed` lists the extreme ones, that of `lcp` is the line of an equilibrium, that of `lp` that of a solution, or with
+-- `-P` on a tree of an equilibrium in every subgame; that of `convert` is the layout of the strategic form, that of `check`
+-- tells of each line, and that of `make` counts.
 pub record TextsHoldForTheGame : Type 0 where
   pub enumpure : (strategic agents perfect : Bool) (file : InputName) (bytes text : List ℕ)
       → answer_of (Enumpure strategic agents perfect file) (bytes ∷ []) (Ok text)
@@ -45,7 +47,7 @@ pub record TextsHoldForTheGame : Type 0 where
       → (game : Game) × game_in bytes (Ok game) × IsCheckText strategic game lines text
   pub make : (number rows columns workers : ℕ) (text : List ℕ)
       → answer_of (Make number rows columns workers) [] (Ok text)
-      → IsCountsText (made_game number rows columns) text
+      → IsCountsText (game_of (made_table number rows columns)) text
 
 -- a fault of a tree's file names this step
 abbrev pub FaultNamesStep : EfgKind → Step → Type 0

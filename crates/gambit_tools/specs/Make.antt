@@ -6,7 +6,8 @@ use Rattle.answers.specs.Answers.{Answer, only, ◌>>=◌, refused_by}
 use Rattle.rational.specs.Rational.{ℚ}
 use Rattle.game_theory.specs.Profiles.{Game}
 use Rattle.extreme_equilibria.specs.ExtremeEquilibria.{AreExtremeEquilibria}
-use Rattle.game_core.specs.MadeTables.{made_game}
+use Rattle.game_core.specs.Table.{game_of}
+use Rattle.game_core.specs.MadeTables.{made_table}
 use Rattle.enummixed.specs.ExtremeText.{VertexPairs, extreme_pairs}
 use Rattle.refusals.specs.Told.{mixed_refusal}
 use Rattle.refusals.specs.declared.refusal.Refusal.{Refusal}
@@ -27,7 +28,7 @@ counts_text v =
 -- the answer of `make`: the counts of the table that is made from this number
 abbrev pub make : (number rows columns : ℕ) → Answer Refusal (List ℕ)
 make number rows columns = do
-  pairs ← refused_by mixed_refusal (extreme_pairs (made_game number rows columns))
+  pairs ← refused_by mixed_refusal (extreme_pairs (game_of (made_table number rows columns)))
   only (counts_text pairs)
 
 -- ---- what each text is

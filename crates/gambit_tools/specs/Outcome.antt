@@ -203,13 +203,17 @@ IsExact words before after answer =
     ⊎ (answer_of command contents answer
     × ((other : RunAnswer) → answer_of command contents other → answer ≡ other))
 
--- Where then the contents are not refused, the text is written whole, unless memory runs out.
+-- Where then the contents are not refused, the status is 0, and the text that is their answer was
+-- written whole and is flushed; or memory ran out, and the status is 5.
 abbrev pub IsComplete : List (List ℕ) → Outside → Outside → ℕ → Type 0
 IsComplete words before after status =
     (command : Command) → command_from words ≡ Ok command
     → (contents : List (List ℕ)) → AreToldContents before.inputs.held (inputs_of command) contents
     → NoFault before after
-    → ((r : Refusal) → ¬ (answer_of command contents (Err r))) → (status ≡ 0) ⊎ (status ≡ 5)
+    → ((r : Refusal) → ¬ (answer_of command contents (Err r)))
+    → (status ≡ 5)
+    ⊎ ((status ≡ 0) × (text : List ℕ) × answer_of command contents (Ok text)
+    × Takes before.out.taken after.out.taken text × (after.out.flushed ≡ true))
 
 -- a run with this answer, which is told by the status and on standard error
 pub record IsToldRun (words : List (List ℕ)) (before after : Seen) (status : ℕ) (answer : RunAnswer) : Type 0 where

@@ -46,8 +46,8 @@ fn verdicts(alloc: Global, strategic: bool, game: &Game, lines: &[u8]) -> Result
     }
 }
 
-/// Reads a game, and then a list of lines, from a file or from standard input, and judges each line:
-/// whether its profile is an equilibrium, and who has a better reply where it is none.
+/// Reads a game, and then a list of lines, from a file or from standard input, and judges each
+/// line: whether its profile is an equilibrium, and who has a better reply where it is none.
 pub(crate) fn check<I: Inputs>(
     alloc: Global,
     strategic: bool,

@@ -52,9 +52,9 @@ fn strategic_layout(
     }
 }
 
-/// Reads the game in a file, or on standard input where no file is named, and lays out its strategic
-/// form, in HTML or for the LaTeX package sgame. The row player and the column player are numbered
-/// from 1.
+/// Reads the game in a file, or on standard input where no file is named, and lays out its
+/// strategic form, in HTML or for the LaTeX package sgame. The row player and the column player are
+/// numbered from 1.
 pub(crate) fn convert<I: Inputs>(
     alloc: Global,
     layout: Layout,

@@ -25,8 +25,9 @@ fn new_buffer(alloc: Global) -> Result<Vec<u8>, AllocError>
     Ok(buffer)
 }
 
-// Reads the next piece of the selected input to the end of `bytes`, and answers how long it is. No byte is
-// read beyond the first above the limit. The length 0 comes exactly at the end of the input.
+// Reads the next piece of the selected input to the end of `bytes`, and answers how long it is. No
+// byte is read beyond the first above the limit. The length 0 comes exactly at the end of the
+// input.
 fn read_piece<I: Inputs>(
     inputs: &mut I,
     buffer: &mut [u8],

@@ -11,8 +11,8 @@ use std::alloc::Global;
 use two_player_tools::lp_text;
 
 /// Reads the game in a file, or on standard input where no file is named, and prints an equilibrium
-/// of it, with the value and the prices where they are asked for: of a tree, where `perfect` is set,
-/// one that is found subgame by subgame.
+/// of it, with the value and the prices where they are asked for: of a tree, where `perfect` is
+/// set, one that is found subgame by subgame.
 pub(crate) fn lp<I: Inputs>(
     alloc: Global,
     strategic: bool,

@@ -47,8 +47,8 @@ fn counts_text(alloc: Global, found: &ExtremePairs) -> Result<String, Memory>
 }
 
 /// Makes the table with a number, and counts the bases and the vertices of its polytopes and its
-/// extreme equilibria. The crew shares the enumeration, and the answer is the same for any number of
-/// workers.
+/// extreme equilibria. The crew shares the enumeration, and the answer is the same for any number
+/// of workers.
 pub(crate) fn make<R: Threads + Sync, G: Gate>(
     crew: &Crew<R, G>,
     alloc: Global,

@@ -2,7 +2,7 @@
 ghost use Rattle.std.specs.Prelude.{false, option_map, string_bytes};
 ghost use Rattle.answers.specs.Answers.{Gives, map_ok, then};
 ghost use Rattle.words.specs.Words.{Enummixed};
-ghost use Rattle.two_player_tools.specs.StrategicForms.{strategic_form};
+ghost use Rattle.two_player_tools.specs.StrategicForms.{strategic_table};
 ghost use Rattle.gambit_tools.specs.Enummixed.{enummixed, table_text, EnummixedTextsAreExtreme};
 ghost use Rattle.gambit_tools.specs.Outcome.{IsComputed};
 
@@ -32,8 +32,8 @@ fn text_of_kept<R: Threads + Sync, G: Gate>(
     Ok(list_equilibria_of_kept(crew.rt, alloc, table, &kept, crew.workers, crew.gate)?)
 }
 
-// The text of the extreme equilibria of a table, looked for among all strategies or among those that
-// are not strictly dominated.
+// The text of the extreme equilibria of a table, looked for among all strategies or among those
+// that are not strictly dominated.
 fn table_text<R: Threads + Sync, G: Gate>(
     crew: &Crew<R, G>,
     alloc: Global,
@@ -57,7 +57,7 @@ fn strategic_text<R: Threads + Sync, G: Gate>(
     all: bool,
     game: &Game,
 ) -> Result<Vec<u8>, Refusal>
-    ensures { Gives Refusal.Memory (then (strategic_form game.now) (table_text all))
+    ensures { Gives Refusal.Memory (then (strategic_table game.now) (table_text all))
         (map_ok result (λ text. text.items)) }
 {
     match game {

@@ -52,9 +52,9 @@ fn pure_equilibria(
     }
 }
 
-/// Reads the game in a file, or on standard input where no file is named, and lists its pure equilibria: by
-/// strategies where `strategic` is set, and else those of a tree as behaviour, or the choices that pass where
-/// `agents` or `perfect` is set.
+/// Reads the game in a file, or on standard input where no file is named, and lists its pure
+/// equilibria: by strategies where `strategic` is set, and else those of a tree as behaviour, or
+/// the choices that pass where `agents` or `perfect` is set.
 pub(crate) fn enumpure<I: Inputs>(
     alloc: Global,
     strategic: bool,

@@ -37,7 +37,7 @@ use std::marker::Sync;
 use std::thread::Threads;
 use two_player_tools::{
     lcp_texts_are_equilibria, lp_texts_are_solutions, solutions_are_answered, solutions_are_single,
-    strategic_forms_are_answered,
+    strategic_tables_are_answered,
 };
 use words::{Settings, read_settings};
 
@@ -153,8 +153,8 @@ fn refuse_formed<E: Sink>(alloc: Global, err: &mut E, refusal: Refusal) -> u8
 }
 
 /// Writes the line of a refusal and flushes the sink, and answers the refusal's status. Where the
-/// line tells more than the refusal's kind and there is no memory to form it, want of memory is told
-/// in its place. A fault of the sink ends the writing and changes no status.
+/// line tells more than the refusal's kind and there is no memory to form it, want of memory is
+/// told in its place. A fault of the sink ends the writing and changes no status.
 pub fn refuse<E: Sink>(alloc: Global, err: &mut E, refusal: Refusal) -> u8
     ensures { (told : Refusal) × IsToldAs refusal told × (result ≡ status_of told)
         × IsTold (E.seen err.old) (E.seen err.new) (Some told) }
@@ -170,10 +170,11 @@ pub fn refuse<E: Sink>(alloc: Global, err: &mut E, refusal: Refusal) -> u8
 
 /// Does all that the program does, and answers the status with which it ends.
 ///
-/// `words` are the words after the program's own name. The inputs that they name are selected one after
-/// another, and each is read to its end, or to byte 16,777,217; the whole text is computed; only then it is
-/// written to `out` and flushed. A refusal ends this where it comes: before the writing nothing goes to `out`,
-/// and each refusal writes one line to `err`. A fault of `err` ends the writing to `err` and changes no status.
+/// `words` are the words after the program's own name. The inputs that they name are selected one
+/// after another, and each is read to its end, or to byte 16,777,217; the whole text is computed;
+/// only then it is written to `out` and flushed. A refusal ends this where it comes: before the
+/// writing nothing goes to `out`, and each refusal writes one line to `err`. A fault of `err` ends
+/// the writing to `err` and changes no status.
 pub fn run<R: Threads + Sync, I: Inputs, K: Sink, E: Sink, G: Gate>(
     rt: &R,
     alloc: Global,
@@ -189,8 +190,8 @@ pub fn run<R: Threads + Sync, I: Inputs, K: Sink, E: Sink, G: Gate>(
         (seen (I.seen inputs.new) (K.seen out.new) (E.seen err.new))
         result answer }
 
-    // Where the words are accepted, the inputs are not refused and no fault was counted, the text is written whole,
-    // unless memory runs out.
+    // Where the words are accepted, the inputs are not refused and no fault was counted, the text
+    // is written whole, unless memory runs out.
     ensures complete { IsComplete (map string_bytes words.now)
         (outside (I.seen inputs.old) (K.seen out.old))
         (outside (I.seen inputs.new) (K.seen out.new))
@@ -214,7 +215,8 @@ pub fn answers_are_single()
     tree_checks_are_single();
 }
 
-/// The contents of a command's inputs have an answer.
+/// Whatever the contents of its inputs are, a command that words give has an answer: it cannot be
+/// that it has none.
 pub fn contents_are_answered()
     ensures { (words : List (List ℕ)) (command : Command) (contents : List (List ℕ))
         → command_from words ≡ Ok command → IsAnswered (answer_of command contents) }
@@ -222,7 +224,7 @@ pub fn contents_are_answered()
     trees_are_game_trees();
     recalls_are_answered();
     forms_are_answered();
-    strategic_forms_are_answered();
+    strategic_tables_are_answered();
     solutions_are_answered();
     table_checks_are_answered();
     tree_checks_are_answered();

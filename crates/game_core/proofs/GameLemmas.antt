@@ -5,10 +5,10 @@ use Rattle.std.proofs.Math.Nat.{mul-one}
 use Rattle.lists.proofs.NumberLemmas.{below_two}
 use Rattle.rational.specs.Rational.{ℚ, whole, zero_ℚ}
 use Rattle.game_core.specs.Table.{IsTable, game_of, most_payoffs}
-use Rattle.game_core.specs.MadeTableLaws.{MadeGamesPayDraws}
-use Rattle.game_core.specs.MadeTables.{drawn, made_game, made_payoffs}
+use Rattle.game_core.specs.MadeTableLaws.{MadeTablesPayDraws}
+use Rattle.game_core.specs.MadeTables.{drawn, made_payoffs}
 
-pub pays_draws : MadeGamesPayDraws
+pub pays_draws : MadeTablesPayDraws
 pays_draws seed rows columns i k two below =
     get_or-map-range_with_len (λ n. whole (pos (drawn seed n))) 1 (2 * (rows * columns)) (k * 2 + i) (2 * k + i + 1) zero_ℚ (omega (arith, two, below)) (omega arith)
 
@@ -17,18 +17,11 @@ module _ (seed rows columns : ℕ) (title : List ℕ) (players first second : Li
   number : length payoffs ≡ 2 * (rows * columns)
   number = ap length drawn_are ∙ length-map-range_with_len (λ n. whole (pos (drawn seed n))) 1 (2 * (rows * columns))
 
-  -- the table has its form ..
+  -- the table has its form
   pub is_table : 0 < rows → 0 < columns → 2 * (rows * columns) ≤ most_payoffs → IsTable (record { title = title; players = players; strategies = first ∷ second ∷ []; payoffs = payoffs })
   is_table some other few = record {
     strategies_of_each = sym two;
     some_strategy = λ k d within. below_two (λ k. 0 < length (slice_index_or (first ∷ second ∷ []) k d)) (omega (arith, some, so_many)) (omega (arith, other, others)) k within;
     payoffs_of_each = number ∙ sym (ap₂ (λ a b. a * b) two (ap₂ (λ a b. a * b) so_many (mul-one (length second) ∙ others)));
     few_payoffs = omega (arith, number, few);
-  }
-
-  -- .. and stands for the made game
-  pub is_made : game_of (record { title = title; players = players; strategies = first ∷ second ∷ []; payoffs = payoffs }) ≡ made_game seed rows columns
-  is_made = λ j. record {
-    strategies = so_many j ∷ others j ∷ [];
-    pays = λ i k. slice_index_or (drawn_are j) (k * (two j) + i) zero_ℚ;
   }

@@ -1,10 +1,9 @@
 -- Tables of two players with payoffs that a linear congruential generator draws.
 -- Source: the example generator of the C standard.
-use Rattle.std.specs.Prelude.{ℕ, zero, suc, ◌+◌, ◌*◌, ◌/◌, ◌%◌, pos, List, [], ◌∷◌, map, replicate, slice_index_or}
+use Rattle.std.specs.Prelude.{ℕ, zero, suc, ◌+◌, ◌*◌, ◌/◌, ◌%◌, pos, List, [], ◌∷◌, map, replicate}
 use Rattle.std.specs.List.{range_with_len}
-use Rattle.rational.specs.Rational.{ℚ, whole, zero_ℚ}
+use Rattle.rational.specs.Rational.{ℚ, whole}
 use Rattle.game_core.specs.Table.{GameTable}
-use Rattle.game_theory.specs.Profiles.{Game}
 
 -- the state that follows a state
 abbrev pub next_state : ℕ → ℕ
@@ -27,15 +26,8 @@ drawn seed n = digit_of (state seed n)
 abbrev pub made_payoffs : (seed count : ℕ) → List ℚ
 made_payoffs seed count = map (λ n. whole (pos (drawn seed n))) (range_with_len 1 count)
 
--- The game of two players with these numbers of strategies. The draws are its payoffs, profile by
--- profile in table order, and in each profile player 0's before player 1's.
-abbrev pub made_game : (seed rows columns : ℕ) → Game
-made_game seed rows columns = record {
-  strategies = rows ∷ columns ∷ [];
-  pays = λ i k. slice_index_or (made_payoffs seed (2 * (rows * columns))) (k * 2 + i) zero_ℚ;
-}
-
--- The table of that game whose names are all empty.
+-- The table of two players with these numbers of strategies. The draws are its payoffs, profile by
+-- profile in table order, and in each profile player 0's before player 1's. All names are empty.
 abbrev pub made_table : (seed rows columns : ℕ) → GameTable
 made_table seed rows columns = record {
   title = [];

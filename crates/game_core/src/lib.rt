@@ -3,15 +3,15 @@
 //!
 //! Callers may rely on: a `Table` and a `Tree` keep their invariants; `trees_are_game_trees`;
 //! the methods of a `Tree` give the parts of its game; `last_moves` the last moves above its nodes;
-//! `made_games_pay_draws`, of `make_table`.
+//! `made_tables_pay_draws`, of `make_table`.
 //! Definitions: `specs::Table` and `TreeGame` say what a table and a tree stand for (`game_of`,
-//! `game_of_tree`), `Tree` what makes one, `LastMoves` which moves are the last, `Limits` when a count
-//! is within its limit, `Spacing` what tokens keep, `TreeCodes` how the parts of trees are coded where
-//! models keep them, `Texts` how what is counted is displayed.
+//! `game_of_tree`), `Tree` what makes one, `LastMoves` which moves are the last, `Limits` when a
+//! count is within its limit, `Spacing` what tokens keep, `TreeCodes` how the parts of trees are
+//! coded where models keep them, `Texts` how what is counted is displayed.
 //! Private words: `specs::OwnSets`, how a tree keeps its own sets.
-//! Lemmas for callers: `proofs::TableCountLemmas` on counts of strategies, `SameTableLemmas` on tables
-//! with the same parts, `StrideLemmas`, `ParentPathLemmas` on subtrees, `SetReadLemmas` on sets that
-//! are read.
+//! Lemmas for callers: `proofs::TableCountLemmas` on counts of strategies, `SameTableLemmas` on
+//! tables with the same parts, `StrideLemmas`, `ParentPathLemmas` on subtrees, `SetReadLemmas` on
+//! sets that are read.
 //! A change here touches: all contracts that name a game, from the readers to `run`.
 #![tactic(auto)]
 
@@ -29,7 +29,7 @@ mod tree;
 mod tree_parts;
 
 pub use game::Game;
-pub use made_table::{made_games_pay_draws, make_table};
+pub use made_table::{made_tables_pay_draws, make_table};
 pub use moves::{LastMove, last_moves};
 pub use name::{Name, copied, copied_names};
 pub use outside::{

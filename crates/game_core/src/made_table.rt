@@ -1,8 +1,8 @@
 // Tables whose payoffs a generator draws from a seed.
 ghost use Rattle.std.specs.Prelude.{◌≡◌, ◌*◌, ◌<◌, ◌≤◌, [], replicate, IfOk};
-ghost use Rattle.game_core.specs.Table.{game_of, most_payoffs};
-ghost use Rattle.game_core.specs.MadeTables.{made_game, made_table};
-ghost use Rattle.game_core.specs.MadeTableLaws.{MadeGamesPayDraws};
+ghost use Rattle.game_core.specs.Table.{most_payoffs};
+ghost use Rattle.game_core.specs.MadeTables.{made_table};
+ghost use Rattle.game_core.specs.MadeTableLaws.{MadeTablesPayDraws};
 
 use crate::draws::made_payoffs;
 use crate::name::Name;
@@ -31,8 +31,7 @@ pub fn make_table(alloc: Global, seed: u32, rows: u32, columns: u32) -> Result<T
     requires rows { 0 < rows }
     requires columns { 0 < columns }
     requires few { 2 * (rows * columns) ≤ most_payoffs }
-    ensures table { IfOk result (λ table. table ≡ made_table seed rows columns) }
-    ensures game { IfOk result (λ table. game_of table ≡ made_game seed rows columns) }
+    ensures { IfOk result (λ table. table ≡ made_table seed rows columns) }
 {
     let payoffs = made_payoffs(alloc, seed, 2 * (rows as usize * columns as usize))?;
     let players = empty_names(alloc, 2)?;
@@ -43,7 +42,7 @@ pub fn make_table(alloc: Global, seed: u32, rows: u32, columns: u32) -> Result<T
     Ok(Table::new(title, players, strategies, payoffs))
 }
 
-/// What a made game pays.
-pub fn made_games_pay_draws()
-    ensures { MadeGamesPayDraws }
+/// What the game of a made table pays.
+pub fn made_tables_pay_draws()
+    ensures { MadeTablesPayDraws }
 {}

@@ -8,7 +8,8 @@ use crate::tree::Tree;
 use answers::Memory;
 use std::alloc::Global;
 
-/// A move on the way to a node: the node at which it is made, its set, and the action that leads on.
+/// A move on the way to a node: the node at which it is made, its set, and the action that leads
+/// on.
 pub type LastMove = (usize, u32, u32);
 
 // Goes up from a node to one above it, where `last` has each player's last move above the first.
@@ -51,8 +52,8 @@ fn descend(tree: &Tree, last: &mut [Option<LastMove>], node: usize)
     }
 }
 
-/// For each node at which a player moves the player's last move above it. The walk goes over each edge twice at
-/// most.
+/// For each node at which a player moves the player's last move above it. The walk goes over each
+/// edge twice at most.
 ///
 /// # Errors
 ///

@@ -21,8 +21,8 @@ pub fn profile_count(counts: &[usize]) -> usize
     profiles
 }
 
-/// Writes the pure profile with a number in file order, in which the first player's strategy changes fastest, where the
-/// players have so many strategies.
+/// Writes the pure profile with a number in file order, in which the first player's strategy
+/// changes fastest, where the players have so many strategies.
 pub fn set_profile(profile: &mut [u32], counts: &[usize], number: usize)
     requires players { length profile.old ≡ length counts.now }
     requires few { All (λ n. n ≤ most_payoffs) counts.now }
@@ -36,12 +36,12 @@ pub fn set_profile(profile: &mut [u32], counts: &[usize], number: usize)
     }
 }
 
-/// Adds the probabilities of so many strategies or actions, of which one is surely chosen: 1 for that one, which counts
-/// from 0, and 0 for the others.
+/// Adds the probabilities of so many strategies or actions, of which one is surely chosen: 1 for
+/// that one, which counts from 0, and 0 for the others.
 ///
 /// # Errors
 ///
-/// Memory ran out.
+/// Memory ran out. What the list then holds is not said.
 pub fn push_sure(entries: &mut Vec<Frac>, count: usize, chosen: usize) -> Result<(), Memory>
     ensures { OnOk result (entries.new.items ≡ entries.old.items ++ listed count (sure chosen)) }
 {

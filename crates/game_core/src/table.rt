@@ -12,9 +12,9 @@ use std::marker::Model;
 /// The most payoffs that a table may have.
 pub const MOST_PAYOFFS: usize = 1_048_576;
 
-/// A game as a table. Each player has at least one strategy, and each pure profile has one payoff per player.
-/// Profiles run in file order, in which the first player's strategy changes fastest; there are at most
-/// 1,048,576 payoffs. Players, strategies and profiles count from 0.
+/// A game as a table. Each player has at least one strategy, and each pure profile has one payoff
+/// per player. Profiles run in file order, in which the first player's strategy changes fastest;
+/// there are at most 1,048,576 payoffs. Players, strategies and profiles count from 0.
 #[derive(Debug, Drop)]
 pub struct Table {
     title: Name,
@@ -48,8 +48,8 @@ impl Model for Table {
 }
 
 impl Table {
-    /// The table with these parts: for each player the names of the strategies, and for each profile in file
-    /// order one payoff per player. Takes no memory.
+    /// The table with these parts: for each player the names of the strategies, and for each
+    /// profile in file order one payoff per player. Takes no memory.
     pub fn new(
         title: Name,
         players: Vec<Name>,

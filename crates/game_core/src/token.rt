@@ -20,7 +20,8 @@ pub enum Token {
     Number(Frac),
 }
 
-/// A token with its span in the source: the byte offsets, from 0, of its first byte and of the byte after it.
+/// A token with its span in the source: the byte offsets, from 0, of its first byte and of the byte
+/// after it.
 #[derive(Debug, Drop)]
 pub struct Spanned {
     /// The token.
@@ -31,8 +32,8 @@ pub struct Spanned {
     pub end: usize,
 }
 
-/// The tokens of a source in order, and the source's length in bytes. No span passes that length, and each
-/// number has a numerator and a denominator below 2^63 in size.
+/// The tokens of a source in order, and the source's length in bytes. No span passes that length,
+/// and each number has a numerator and a denominator below 2^63 in size.
 #[derive(Debug, Drop)]
 pub struct Tokens {
     list: Vec<Spanned>,

@@ -11,7 +11,7 @@ pub const MOST_ROWS: u64 = 512;
 /// What is counted against a limit.
 #[derive(Clone, Copy, Debug, PartialEq, Eq)]
 pub enum What {
-    /// Payoffs of a table or of a reduced form.
+    /// Payoffs of a table or of a reduced form, or values of choices.
     Payoffs,
     /// Choices of a reduced form: strategies times own information sets, added over the players.
     Choices,

@@ -79,8 +79,8 @@ impl Model for InfoSet {
 }
 
 impl InfoSet {
-    /// The set with this owner (nothing for chance), the number and the name that a file gives it, its actions
-    /// in order, and the nodes that name it in order. Takes no memory.
+    /// The set with this owner (nothing for chance), the number and the name that a file gives it,
+    /// its actions in order, and the nodes that name it in order. Takes no memory.
     pub fn new(
         owner: Option<u32>,
         label: u64,
@@ -161,8 +161,8 @@ impl Model for Outcome {
 }
 
 impl Outcome {
-    /// The outcome with the number and the name that a file gives it, and one payoff per player. Takes no
-    /// memory.
+    /// The outcome with the number and the name that a file gives it, and one payoff per player.
+    /// Takes no memory.
     pub fn new(label: u64, name: Name, payoffs: Vec<Frac>) -> Outcome
         ensures { result ≡ record { label = label; name = name; payoffs = payoffs.items } }
     {
@@ -221,8 +221,9 @@ fn own_lists(alloc: Global, players: usize, sets: &[InfoSet]) -> Result<Vec<Vec<
     Ok(lists)
 }
 
-/// A game as a tree. The nodes stand in prefix order, the sets and the outcomes in the order in which the nodes
-/// first name them. There are at most 65,536 nodes, none more than 1,024 edges from the root.
+/// A game as a tree. The nodes stand in prefix order, the sets and the outcomes in the order in
+/// which the nodes first name them. There are at most 65,536 nodes, none more than 1,024 edges from
+/// the root.
 #[derive(Debug, Drop)]
 pub struct Tree {
     title: Name,
@@ -343,7 +344,8 @@ impl Tree {
         self.outcomes.as_slice()
     }
 
-    /// The numbers of a player's own sets in order; none where there is no such player. Takes no memory.
+    /// The numbers of a player's own sets in order; none where there is no such player. Takes no
+    /// memory.
     pub fn sets_of(&self, player: u32) -> &[u32]
         ensures { result.now ≡ own_sets (game_of_tree self.now) player }
     {
@@ -353,8 +355,8 @@ impl Tree {
         }
     }
 
-    /// The number of the set at this place, from 0, among a player's own sets in order; nothing exactly where the
-    /// player has no more sets. Takes no memory.
+    /// The number of the set at this place, from 0, among a player's own sets in order; nothing
+    /// exactly where the player has no more sets. Takes no memory.
     pub fn own_sets(&self, player: u32, place: u32) -> Option<u32>
         ensures { result ≡ slice_get (own_sets (game_of_tree self.now) player) place }
     {

@@ -12,7 +12,8 @@ use crate::tree::{Tree, sets_are_numbered_by_first_nodes, trees_are_game_trees};
 use frac128::Frac;
 
 impl Tree {
-    /// What a tree stands for is a game tree whose sets are numbered by their first nodes. Does nothing.
+    /// What a tree stands for is a game tree whose sets are numbered by their first nodes. Does
+    /// nothing.
     pub fn stands_for_game_tree(&self)
         ensures valid { IsGameTree self.now }
         ensures game { is_game_tree (game_of_tree self.now) }
@@ -60,10 +61,7 @@ impl Tree {
         requires { set < length self.now.sets }
         ensures { result ≡ is_own (game_of_tree self.now) player set }
     {
-        match self.owner(set) {
-            Some(own) => own == player,
-            None => false,
-        }
+        self.owner(set) == Some(player)
     }
 
     /// The player who chooses at a node, and the node's set; nothing where no player does.

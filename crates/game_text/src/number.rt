@@ -127,14 +127,14 @@ fn read_rest(negative: bool, before: &[u8], rest: &[u8]) -> Result<Frac, NumberF
     }
 }
 
-/// Reads a number: an optional sign, and a fraction of digits or a decimal with an optional exponent. Takes no
-/// memory.
+/// Reads a number: an optional sign, and a fraction of digits or a decimal with an optional
+/// exponent. Takes no memory.
 ///
 /// # Errors
 ///
-/// `Bad` exactly where the text has no number's form; `TooLarge` exactly where it has one that passes a limit:
-/// an exponent outside -18 to 18, more than 36 digits when zeros that do not count are struck, or a value
-/// with a numerator or denominator of 2^63 or more in size.
+/// `Bad` exactly where the text has no number's form; `TooLarge` exactly where it has one that
+/// passes a limit: an exponent outside -18 to 18, more than 36 digits when zeros that do not count
+/// are struck, or a value with a numerator or denominator of 2^63 or more in size.
 pub fn read_number(text: &[u8]) -> Result<Frac, NumberFault>
     ensures number { IfOk result (IsNumber text.now) }
     ensures bad { IsErrOf result NumberFault.Bad → IsNoNumber text.now }

@@ -48,8 +48,8 @@ pub(crate) fn are_digits(text: &[u8]) -> bool
     all_digits(text) && !text.is_empty()
 }
 
-// The digits of an exponent, and whether a minus comes before them. No text is the exponent 0, which has
-// no digits.
+// The digits of an exponent, and whether a minus comes before them. No text is the exponent 0,
+// which has no digits.
 #[tactic(auto, unfolding(crate::specs::NumberReading::power_of))]
 pub(crate) fn split_power(text: &[u8]) -> Option<(bool, &[u8])>
     ensures { option_map (λ power. (power.0, power.1.now)) result ≡ power_of text.now }

@@ -155,7 +155,8 @@ fn fault(kind: TextKind, at: usize) -> TextStop
 ///
 /// # Errors
 ///
-/// `Fault` exactly where the bytes are no list of tokens, with the first fault; `Memory` where memory ran out.
+/// `Fault` exactly where the bytes are no list of tokens, with the first fault; `Memory` where
+/// memory ran out.
 pub fn read_tokens(alloc: Global, bytes: &[u8]) -> Result<Tokens, TextStop>
     ensures { Gives Memory (tokens_of bytes.now) result }
 {

@@ -4,7 +4,8 @@ ghost use Rattle.game_text.specs.Reading.{spelled_byte, spelled, from_closing_qu
 
 use std::alloc::{AllocError, Global};
 
-// The byte that the front of a text spells, and the bytes after it; nothing at a closing quote and at the end.
+// The byte that the front of a text spells, and the bytes after it; nothing at a closing quote and
+// at the end.
 fn spelled_byte(bytes: &[u8]) -> Option<(u8, &[u8])>
     ensures { option_map (λ x. (x.0, x.1.now)) result ≡ spelled_byte bytes.now }
 {
@@ -15,8 +16,8 @@ fn spelled_byte(bytes: &[u8]) -> Option<(u8, &[u8])>
     }
 }
 
-/// The bytes from the quote that closes a text on, where these are after its opening quote: none where no quote
-/// closes it.
+/// The bytes from the quote that closes a text on, where these are after its opening quote: none
+/// where no quote closes it.
 pub(crate) fn closing(bytes: &[u8]) -> &[u8]
     ensures closing { result.now ≡ from_closing_quote bytes.now }
     ensures within { length result.now ≤ length bytes.now }

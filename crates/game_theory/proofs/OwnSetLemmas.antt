@@ -95,6 +95,14 @@ pub AreApart-ascending : (n : ℕ) (sets : List ℕ) → AscendFrom n sets → A
 AreApart-ascending n [] h = tt
 AreApart-ascending n (s ∷ sets) h = (λ again. absurd (omega (arith, IsAmong-from (suc s) sets s h.1 again)), AreApart-ascending (suc s) sets h.1)
 
+-- each stands at one index
+pub AreApart-index : (sets : List ℕ) → AreApart sets → (j k : ℕ) → j < length sets → k < length sets → get_or sets j 0 ≡ get_or sets k 0 → j ≡ k
+AreApart-index [] apart j k at other same = absurd (omega (arith, at))
+AreApart-index (s ∷ sets) apart zero zero at other same = refl
+AreApart-index (s ∷ sets) apart zero (suc k) at other same = absurd (apart.0 (subst (IsAmong sets) (sym same) (among_at sets k 0 (omega (arith, other)))))
+AreApart-index (s ∷ sets) apart (suc j) zero at other same = absurd (apart.0 (subst (IsAmong sets) same (among_at sets j 0 (omega (arith, at)))))
+AreApart-index (s ∷ sets) apart (suc j) (suc k) at other same = ap suc (AreApart-index sets apart.1 j k (omega (arith, at)) (omega (arith, other)) same)
+
 -- ---- numbers that a test picks
 -- one of the numbers that passes the test is among those that do
 filter-has : (p : ℕ → Bool) (numbers : List ℕ) (s : ℕ) → IsAmong numbers s → p s ≡ true → IsAmong (filter p numbers) s

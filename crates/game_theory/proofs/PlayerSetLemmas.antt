@@ -12,7 +12,7 @@ use Rattle.game_theory.specs.Lines.{entries, listed}
 use Rattle.game_theory.specs.Mixed.{sure, pure as pure_profile}
 use Rattle.game_theory.specs.OwnSets.{own_sets, player_sets}
 use Rattle.game_theory.specs.Profiles.{IsProfile}
-use Rattle.game_theory.specs.TreeEntries.{own_entries, tree_entries}
+use Rattle.game_theory.specs.TreeEntries.{entries_at, tree_entries}
 use Rattle.game_theory.specs.Trees.{Tree, IsTree}
 use Rattle.game_theory.proofs.OwnSetLemmas.{AreApart, AreApart-append, AreApart-ascending, IsAmong, IsAmong-left, IsAmong-parts, IsAmong-right, among_at, own_sets-ascend, own_sets-has, own_sets-tell}
 
@@ -99,24 +99,14 @@ few_player_sets t =
     length-le_from_distinct_below (player_sets t) t.sets (distinct_sets (player_sets t) (player_sets-apart t)) (λ s e. (player_sets-tell t s (found_set (player_sets t) s e)).1)
 
 -- ---- the entries of choices
--- the entries at these sets
-abbrev entries_at : Tree → (ℕ → ℕ) → List ℕ → List ℚ
-entries_at t choice sets = flat_map (λ s. listed (t.actions s) (sure (choice s))) sets
-
--- they are those of a profile in which each set is a player
-entries_at-profile : (t : Tree) (choice : ℕ → ℕ) (sets : List ℕ) → entries_at t choice sets ≡ entries (map t.actions sets) (pure_profile (map choice sets))
+-- at these sets they are those of a profile in which each set is a player
+entries_at-profile : (t : Tree) (choice : ℕ → ℕ) (sets : List ℕ) → entries_at t (pure choice) sets ≡ entries (map t.actions sets) (pure_profile (map choice sets))
 entries_at-profile t choice [] = refl
 entries_at-profile t choice (set ∷ sets) = ap (λ x. listed (t.actions set) (sure (choice set)) ++ x) (entries_at-profile t choice sets)
 
--- the entries of players are those at their sets
-entries_at-sets : (t : Tree) (choice : ℕ → ℕ) (i n : ℕ) → flat_map (own_entries t (pure choice)) (range_with_len i n) ≡ entries_at t choice (sets_from t i n)
-entries_at-sets t choice i zero = refl
-entries_at-sets t choice i (suc n) =
-    ap (λ x. own_entries t (pure choice) i ++ x) (entries_at-sets t choice (i + 1) n) ∙ sym (flat_map-append (λ s. listed (t.actions s) (sure (choice s))) (own_sets t i) (sets_from t (i + 1) n))
-
 -- the entries of choices are those of a profile in which each set is a player
 pub tree_entries-profile : (t : Tree) (choice : ℕ → ℕ) → tree_entries t (pure choice) ≡ entries (map t.actions (player_sets t)) (pure_profile (map choice (player_sets t)))
-tree_entries-profile t choice = entries_at-sets t choice 0 t.players ∙ entries_at-profile t choice (player_sets t)
+tree_entries-profile t choice = entries_at-profile t choice (player_sets t)
 
 -- actions at sets are such a profile
 IsProfile-choices : (t : Tree) (choice : ℕ → ℕ) (sets : List ℕ) → ((s : ℕ) → IsAmong sets s → choice s < t.actions s) → IsProfile (map t.actions sets) (map choice sets)

@@ -75,7 +75,8 @@ pub fn prisoners_dilemma()
     ensures { PrisonersDilemmaHasOnePureEquilibrium }
 {}
 
-/// In the battle of the sexes the players meet at either place: those are its only pure equilibria, in this order.
+/// In the battle of the sexes the players meet at either place: those are its only pure equilibria,
+/// in this order.
 pub fn battle_of_the_sexes()
     ensures { BattleOfTheSexesHasTwoPureEquilibria }
 {}

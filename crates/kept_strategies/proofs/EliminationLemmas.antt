@@ -1,12 +1,15 @@
 -- The strategies of a list that are not dominated, as they are found one after another.
 use Rattle.std.proofs.Common.{ℕ, ◌+◌, ◌*◌, ◌<◌, ◌≤◌, ◌-◌, ◌≡◌, ◌⊎◌, inl, inr, All, List, [], ◌∷◌, ◌++◌, length, take, replicate, set, get_or, sum, sym, ap, ◌∙◌, subst, subst₂, arith}
 use Rattle.std.specs.Prelude.{Contains}
-use Rattle.std.specs.List.Sorted.{IsNonDecreasingBy, IsStrictlyIncreasing}
+use Rattle.std.specs.List.{range_with_len}
+use Rattle.std.specs.List.Sorted.{IsStrictlyIncreasing}
 use Rattle.std.proofs.lemmas.Bool.{cases_eq, cases_lt}
 use Rattle.std.proofs.lemmas.List.{get_or-replicate, get_or-set_other, get_or-set_same, get_or-take, length-replicate, length-set, length-take-le, length_push, take_more}
 use Rattle.std.proofs.lemmas.List.Elements.{Contains-get_or, Contains-append_left, Contains-push, Contains-push_cases}
 use Rattle.std.proofs.lemmas.List.Kept.{AllPairs-from_increasing}
+use Rattle.std.proofs.lemmas.List.FromFn.{get_or-range_with_len, length-range_with_len}
 use Rattle.lists.proofs.ElementLemmas.{two-elements}
+use Rattle.lists.proofs.AscendingNumberLemmas.{non_decreasing}
 use Rattle.lists.proofs.NumberLemmas.{place-inside, place-tells}
 use Rattle.game_core.specs.Table.{GameTable, IsTable, game_of, strategy_counts}
 use Rattle.game_core.proofs.TableCountLemmas.{length-strategy_counts}
@@ -19,9 +22,18 @@ use Rattle.extreme_equilibria.proofs.KeptListLemmas.{place}
 use Rattle.kept_strategies.specs.Comparisons.{AreAhead, IsAheadAt, IsAheadBefore}
 use Rattle.kept_strategies.specs.Kept.{most_strategies}
 
--- at first there is none
-pub none-listed : (xs : List ℕ) → xs ≡ [] → AreListed (λ s. s < 0) xs
-none-listed xs e = subst (AreListed (λ s. s < 0)) (sym e) (record { ascending = λ k l. absurd (omega (arith, l)); sound = λ s c. absurd (omega (arith, c.1)); complete = λ s q. absurd (omega (arith, q)) })
+-- all numbers below a count
+pub below-listed : (n : ℕ) → AreListed (λ s. s < n) (range_with_len 0 n)
+below-listed n = record {
+  ascending = λ k l.
+      let lk : k < n = omega (arith, l, length-range_with_len 0 n) in
+      let ln : k + 1 < n = omega (arith, l, length-range_with_len 0 n) in
+      omega (arith, get_or-range_with_len 0 n k 0 lk, get_or-range_with_len 0 n (k + 1) 0 ln);
+  sound = λ s c.
+      let l : c.0 < n = omega (arith, c.1, length-range_with_len 0 n) in
+      omega (arith, c.2, l, get_or-range_with_len 0 n c.0 s l);
+  complete = λ s l. (s, omega (arith, l, length-range_with_len 0 n), omega (arith, get_or-range_with_len 0 n s s l));
+}
 
 -- the lists of a round are strategies of their players
 pub within-all : (t : GameTable) (n i : ℕ) (xs ys : List ℕ) → AreKeptAfter (game_of t) n i xs → ys ≡ xs → All (λ s. s < get_or (strategy_counts t) i 0) ys
@@ -68,16 +80,12 @@ nothing-ahead g i others firsts is = record {
 }
 
 -- ---- the first that is not ahead
--- a list that rises does not fall
-pub rises : (xs : List ℕ) → IsStrictlyIncreasing xs → IsNonDecreasingBy (λ x. x) xs
-rises xs up j k d h l = elim (cases_eq j k) [ inl same ↦ omega (arith, ap (λ x. get_or xs x d) same) | inr apart ↦ omega (arith, AllPairs-from_increasing xs up j k d (omega (arith, h, apart)) l) ]
-
 module _ (g : Game) (i : ℕ) (others : List ℕ) (s r from start : ℕ) (up : IsStrictlyIncreasing others) (known : IsAheadBefore g i others s r from) (below : (k : ℕ) → k < length others → get_or others k 0 < from ⊎ (start ≤ k)) where
   -- those before one place, where it is so from the start on
   pub ahead-before : (k : ℕ) → k < length others → ((j : ℕ) → start + j < k → IsAheadAt g i s r (get_or others (start + j) 0)) → IsAheadBefore g i others s r (get_or others k 0)
   ahead-before k l ahead t c less =
       let p = place others t 0 c in
-      let before : p.0 < k = elim (cases_lt p.0 k) [ inl is ↦ is | inr not ↦ absurd (omega (arith, p.2, less, rises others up k p.0 0 (omega (arith, not)) p.1)) ] in
+      let before : p.0 < k = elim (cases_lt p.0 k) [ inl is ↦ is | inr not ↦ absurd (omega (arith, p.2, less, non_decreasing others up k p.0 0 (omega (arith, not)) p.1)) ] in
       at p.0 p.1 before t p.2
     where
       at : (j : ℕ) → j < length others → j < k → (t : ℕ) → get_or others j 0 ≡ t → IsAheadAt g i s r t

@@ -33,8 +33,8 @@ fn payoff(table: &Table, player: u32, own: u32, against: u32) -> Frac
     }
 }
 
-// The first of these strategies of the other player against which `by` pays no more than `strategy`,
-// where it is known to pay more against those before `from`.
+// The first of these strategies of the other player against which `by` pays no more than
+// `strategy`, where it is known to pay more against those before `from`.
 fn first_not_ahead(
     table: &Table,
     player: u32,
@@ -144,11 +144,7 @@ fn all_strategies(alloc: Global, table: &Table, player: u32) -> Result<Vec<u32>,
     ensures { IfOk result (λ all. AreKeptAfter (game_of table.now) 0 player all.items) }
 {
     let count = table.strategy_count(player as usize);
-    let mut all = Vec::with_capacity(alloc, count)?;
-    for strategy in 0..count {
-        all.push(strategy as u32)?;
-    }
-    Ok(all)
+    Ok((0..count as u32).collect(alloc)?)
 }
 
 /// Both players' kept strategies, in ascending order. In each round the removals of both players

@@ -35,7 +35,11 @@ impl Model for Kept {
 
     ghost coded = { code_of_kept };
 
-    ghost view = { λ k. record { first = k.first.items; second = k.second.items; table = k.table } };
+    ghost view = { λ k. record {
+      first = k.first.items;
+      second = k.second.items;
+      table = k.table;
+    } };
 }
 
 impl Kept {
@@ -156,7 +160,8 @@ pub fn undominated(alloc: Global, table: &Table) -> Result<Kept, KeptStop>
     Ok(kept_form(alloc, table, first, second)?)
 }
 
-/// A table has one answer at most: the kept strategies of each player, or why they are not looked for.
+/// A table has one answer at most: the kept strategies of each player, or why they are not looked
+/// for.
 pub fn kept_forms_are_single()
     ensures { (table : GameTable) → IsSingle (kept_of table) }
 {}

@@ -1,7 +1,8 @@
 -- The pairs of marked points that together have all labels: each variable is 0 at one of the two
 -- (von Stengel 2002)
-use Rattle.std.specs.Prelude.{ℕ, Bool, List, [], ◌∷◌, length, map, get_or}
-use Rattle.std.specs.List.{filter, flat_map, range_with_len}
+use Rattle.std.specs.Prelude.{ℕ, Bool, List, [], ◌∷◌, length, get_or}
+use Rattle.std.specs.List.{filter, range_with_len}
+use Rattle.lists.specs.Products.{cartesian_product}
 use Rattle.linear_systems.specs.Vertices.{MarkedPoint}
 use Rattle.label_pairing.specs.Matches.{completes}
 
@@ -15,7 +16,7 @@ mark_at marks i = get_or marks i (record { low = 0; high = 0; point = [] })
 
 -- all places in two lists with so many elements, in ascending order
 abbrev pub places : ℕ → ℕ → List (ℕ × ℕ)
-places m n = flat_map (λ i. map (λ j. (i, j)) (range_with_len 0 n)) (range_with_len 0 m)
+places m n = cartesian_product (range_with_len 0 m) (range_with_len 0 n)
 
 -- the places at which the two marks together have all bits, in ascending order
 abbrev pub all_pairs : List ℕ → List MarkedPoint → List MarkedPoint → List (ℕ × ℕ)

@@ -68,8 +68,8 @@ fn place_count(mask: [u64; 2], all: [u64; 2], low: &[u64], high: &[u64]) -> usiz
     count
 }
 
-// How many candidates, the unions of whose low words are given, complete a mask: block by block, and
-// the rest place by place.
+// How many candidates, the unions of whose low words are given, complete a mask: block by block,
+// and the rest place by place.
 fn partner_count(mask: [u64; 2], candidates: &Candidates, unions: &[u64]) -> usize
     requires { AreUnions candidates.now.low.now unions.now }
     ensures { let c = candidates.now in result ≡ partner_count mask c.all c.low.now c.high.now }

@@ -12,6 +12,11 @@
 
 ghost use Rattle.label_pairing.specs.AnsweredLaws.{PairsAreAnswered};
 ghost use Rattle.label_pairing.specs.Laws.{PairsAreExactlyThose, PairsAreSingle};
+ghost use Rattle.label_pairing.specs.Stops.{scaled_in};
+ghost use Rattle.answers.specs.Answers.{IsSingle};
+ghost use Rattle.answers.specs.Answered.{IsAnswered};
+ghost use Rattle.rational.specs.Rational.{ℚ};
+ghost use Rattle.std.specs.Prelude.{List};
 
 mod candidates;
 mod counting;
@@ -36,4 +41,15 @@ pub fn pairs_are_single()
 /// Two lists have an answer: their list of pairs, or that there are too many.
 pub fn pairs_are_answered()
     ensures { PairsAreAnswered }
+{}
+
+/// A point has one answer at most: what it is when it is scaled, or the first step that does not
+/// fit.
+pub fn scaled_points_are_single()
+    ensures { (point : List ℚ) → IsSingle (scaled_in point) }
+{}
+
+/// A point has an answer: what it is when it is scaled, or the first step that does not fit.
+pub fn scaled_points_are_answered()
+    ensures { (point : List ℚ) → IsAnswered (scaled_in point) }
 {}

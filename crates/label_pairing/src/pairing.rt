@@ -134,9 +134,9 @@ fn collected(
     Ok(pairs)
 }
 
-/// The pairs of vertices whose masks together have all these bits, by their places in the two lists,
-/// in ascending order. Places are numbered from 0. Each vertex's partners are counted first, in
-/// several threads where there are many vertices, and only vertices that have some are looked at
+/// The pairs of vertices whose masks together have all these bits, by their places in the two
+/// lists, in ascending order. Places are numbered from 0. Each vertex's partners are counted first,
+/// in several threads where there are many vertices, and only vertices that have some are looked at
 /// again.
 ///
 /// # Errors

@@ -1,9 +1,9 @@
 // Points divided by the sums of their entries.
-ghost use Rattle.std.specs.Prelude.{length};
+ghost use Rattle.std.specs.Prelude.{[], length};
 ghost use Rattle.rational.specs.Sum.{sum_to, entry_at};
 ghost use Rattle.answers.specs.Answers.{Gives, map_ok};
-ghost use Rattle.frac128.specs.Steps.{StepsGive};
-ghost use Rattle.label_pairing.specs.Scaling.{IsScalable, sum_steps};
+ghost use Rattle.frac128.specs.Steps.{StepsGive, sum_steps};
+ghost use Rattle.label_pairing.specs.Scaling.{IsScalable};
 ghost use Rattle.label_pairing.specs.Stops.{scaled_in};
 ghost use Rattle.label_pairing.specs.declared.scaling.ScaleStop.TheVariants as stops;
 
@@ -59,8 +59,8 @@ impl From<Unfit> for ScaleStop {
 
 // The sum of the entries of a point.
 fn sum(point: &[Frac]) -> Result<Frac, Unfit>
-    ensures { StepsGive (sum_steps point.now) (sum_to (length point.now) (entry_at point.now))
-        result }
+    ensures { StepsGive (sum_steps (length point.now) (entry_at point.now) (λ _. []))
+        (sum_to (length point.now) (entry_at point.now)) result }
 {
     let mut sum = Frac::zero();
     for entry in point {
@@ -86,8 +86,8 @@ fn scaled(alloc: Global, point: &[Frac]) -> Result<Vec<Frac>, ScaleStop>
 ///
 /// # Errors
 ///
-/// `Range` exactly where a step does not fit, with the first: the values are added in order to a sum
-/// that begins at 0, and then each value is divided by the sum. `Memory` where memory ran out.
+/// `Range` exactly where a step does not fit, with the first: the values are added in order to a
+/// sum that begins at 0, and then each value is divided by the sum. `Memory` where memory ran out.
 pub fn scale(alloc: Global, vertex: &Vertex) -> Result<Vec<Frac>, ScaleStop>
     requires { IsScalable vertex.now.point.items }
     ensures { Gives stops.Memory (scaled_in vertex.now.point.items)

@@ -11,7 +11,8 @@ use Rattle.frac128.specs.FirstUnfit.{StepsFit, IsFirstUnfitOf}
 use Rattle.frac128.proofs.FirstUnfitLemmas.{split_here}
 use Rattle.frac128.proofs.StepRunLemmas.{one-fits, subtracted-gives, following-gives}
 use Rattle.sequence_data.specs.declared.types.Cell.{Cell}
-use Rattle.lemke_pivot.specs.FormProblems.{PlayersCell, both_costs, cost_at, cost_steps, steps_at}
+use Rattle.sequence_forms.specs.Prices.{cost_at}
+use Rattle.lemke_pivot.specs.FormProblems.{PlayersCell, both_costs, cost_steps, steps_at}
 
 -- ---- a cost
 pub difference_gives : (most weight payoff part : ℚ) (r : Result ℚ Step) → part ≡ most *ℚ weight → MulFits most weight

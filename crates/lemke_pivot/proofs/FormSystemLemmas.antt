@@ -13,7 +13,7 @@ use Rattle.linear_systems.specs.Rows.{Alike}
 use Rattle.linear_systems.proofs.AgreementLemmas.{alike_trans}
 use Rattle.game_core.specs.Limits.{most_rows}
 use Rattle.sequence_forms.specs.Lists.{listed_at}
-use Rattle.sequence_forms.specs.Prices.{costs}
+use Rattle.sequence_forms.specs.Prices.{costs, cost_at}
 use Rattle.sequence_forms.specs.Sides.{Side, sequences}
 use Rattle.lemke_pivot.specs.Problems.{Costs, costs_of, matrix, right_sides, rows_x, rows_y, size}
 use Rattle.lex_tableau.specs.Starts.{LinearSystem, system_of}
@@ -21,7 +21,7 @@ use Rattle.sequence_data.specs.declared.types.Cell.{Cell}
 use Rattle.sequence_data.specs.Data.{FormData, IsFormData, LeafFits, SideData, form, side_of}
 use Rattle.sequence_data.proofs.GainLemmas.{costs_positive_one, costs_positive_two}
 use Rattle.sequence_data.specs.Matrices.{IsInside, placed, HoldsNumbers, number_at}
-use Rattle.lemke_pivot.specs.FormProblems.{IsSystemOf, cost_at, cost_one, cost_two}
+use Rattle.lemke_pivot.specs.FormProblems.{IsSystemOf, cost_one, cost_two}
 use Rattle.lemke_pivot.specs.Parts.{start_tableau}
 use Rattle.lemke_pivot.specs.ProblemLaws.{CostSumsAreNotNegative}
 use Rattle.lemke_pivot.specs.Systems.{IsSystemFor}

@@ -14,7 +14,7 @@ use Rattle.lex_tableau.specs.declared.tableau.StartStop.TheVariants as starts
 use Rattle.game_core.specs.Limits.{most_rows, within}
 use Rattle.game_core.specs.declared.too_large.What.TheVariants as what
 use Rattle.frac128.specs.FirstUnfit.{all_fit}
-use Rattle.sequence_forms.specs.Prices.{costs}
+use Rattle.sequence_forms.specs.Prices.{cost_at, costs}
 use Rattle.sequence_data.specs.declared.types.Cell.{Cell}
 use Rattle.sequence_data.specs.Data.{FormData, IsFormData, form, of_player}
 use Rattle.lemke_pivot.specs.Parts.{Problem, IsProblem, IsProblemOfForm}
@@ -23,11 +23,7 @@ use Rattle.lemke_pivot.specs.declared.stop.LcpStop.{LcpStop}
 use Rattle.lemke_pivot.specs.declared.stop.LcpStop.TheVariants as stops
 
 -- ---- the costs
--- the cost of a payoff: the greatest payoff times the weight, less the payoff; the product first
-abbrev pub cost_at : ℚ → ℚ → ℚ → ℚ
-cost_at most weight payoff = (most *ℚ weight) -ℚ payoff
-
--- its steps
+-- the steps of the cost of a payoff: the product first
 abbrev pub cost_steps : ℚ → ℚ → ℚ → List Step
 cost_steps most weight payoff = step_of Mul most weight ∷ step_of Sub (most *ℚ weight) payoff ∷ []
 

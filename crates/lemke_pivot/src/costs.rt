@@ -3,7 +3,8 @@ ghost use Rattle.std.specs.Prelude.{◌≡◌, map, IfOk};
 ghost use Rattle.answers.specs.Answers.{Gives, map_ok};
 ghost use Rattle.frac128.specs.Steps.{StepsGive};
 ghost use Rattle.lemke_pivot.specs.declared.stop.LcpStop.TheVariants as stops;
-ghost use Rattle.lemke_pivot.specs.FormProblems.{cost_at, cost_one, cost_steps, cost_two, costs_in};
+ghost use Rattle.sequence_forms.specs.Prices.{cost_at};
+ghost use Rattle.lemke_pivot.specs.FormProblems.{cost_one, cost_steps, cost_two, costs_in};
 
 use crate::stop::LcpStop;
 use frac128::{Frac, Unfit};

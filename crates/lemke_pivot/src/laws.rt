@@ -30,7 +30,7 @@ pub fn solutions_solve_trees()
     ensures { SolutionsSolveTrees }
 {}
 
-/// And so on a table.
+/// On a table the plans are an equilibrium.
 pub fn solutions_solve_tables()
     ensures { SolutionsSolveTables }
 {}

@@ -1,13 +1,13 @@
 //! An equilibrium of a game with two players by complementary pivots.
 //!
 //! Callers may rely on: `problem` and `Lcp::solve` give the problem and the end of its path, of
-//! which there is one each, and only one: a solution or the first step that does not fit, and no ray;
-//! `solutions_solve_trees`.
+//! which there is one each, and only one: a solution or the first step that does not fit, and no
+//! ray; `solutions_solve_trees`.
 //! Definitions: `specs::Problems` has problems w = b + M z and that of two sides, `ProblemPaths`
 //! the path of complementary pivots, `FormProblems` what a form answers, `Ends` the end of a path;
 //! `Systems`, `Vectors` and `Values` have the rows of a problem and what a tableau gives.
-//! Lemmas for callers: `proofs::ProblemAnswerLemmas` and `PathEndLemmas`, that there is at most one;
-//! `PathStartLemmas`.
+//! Lemmas for callers: `proofs::ProblemAnswerLemmas` and `PathEndLemmas`, that there is at most
+//! one; `AnsweredProblemLemmas` and `AnsweredPathLemmas`, that there is one; `PathStartLemmas`.
 //! A change here touches: what `lcp` answers and refuses, and `lcp_texts_are_equilibria`.
 #![tactic(auto)]
 

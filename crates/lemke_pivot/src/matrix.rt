@@ -6,8 +6,8 @@ ghost use Rattle.sequence_forms.specs.Matrices.{right_side};
 use frac128::Frac;
 use sequence_data::{Side, set_entry};
 
-/// Both players' sides, and the costs of both, row by row: one for each sequence of the first player
-/// with each of the second. Rows and columns of the problem count from 0.
+/// Both players' sides, and the costs of both, row by row: one for each sequence of the first
+/// player with each of the second. Rows and columns of the problem count from 0.
 #[derive(Drop)]
 pub(crate) struct SideCosts<'a> {
     pub(crate) first: &'a Side,

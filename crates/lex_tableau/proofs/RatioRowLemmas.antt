@@ -1,8 +1,8 @@
 -- Lemmas for the lexicographic row in code.
-use Rattle.std.proofs.Common.{[], ◌∷◌, ◌*ℤ◌, ◌<ℤ◌, ◌≤ℤ◌, ℕ, ℤ, suc, zero, pos, negsuc, nat_abs, ◌<◌, ◌≡◌, ◌≢◌, ◌+◌, ◌-◌, refl, sym, ap, ap₂, ◌∙◌, subst, subst₂, List, length, get_or, arith, inl, inr, Option, Some, None, int_cmp}
+use Rattle.std.proofs.Common.{[], ◌∷◌, ◌*ℤ◌, ◌<ℤ◌, ◌≤ℤ◌, ℕ, ℤ, suc, zero, pos, negsuc, nat_abs, ◌<◌, ◌≡◌, ◌≢◌, ◌+◌, ◌-◌, refl, sym, ap, ap₂, ◌∙◌, subst, subst₂, List, length, get_or, arith, inl, inr, Option, Some, None, int_cmp, true, false}
 use Rattle.std.specs.declared.cmp.Ordering.{Ordering}
 use Rattle.std.specs.declared.cmp.Ordering.TheVariants.{Less, Equal, Greater}
-use Rattle.std.specs.Ordering.{MatchOrdering}
+use Rattle.std.specs.Ordering.{MatchOrdering, is_ne}
 use Rattle.std.specs.Cmp.{int_ranks}
 use Rattle.std.proofs.Math.Numerals.{suc-eq-add-one}
 use Rattle.std.proofs.lemmas.Int.{ints}
@@ -92,7 +92,7 @@ compared n c i r p k l o t li lr hi hr ki kr same =
     quotient k i h u = quotient_is k (row_of n i (c + 1)) (row_of n i 0) (t.rows i h).positive u
 
 -- at the first place where two rows differ
-pub less_at : (n p : ℕ) (f g : ℕ → ℚ) → p < n → ((q : ℕ) → q < p → f q ≡ g q) → f p <ℚ g p → IsLexLess n f g
+less_at : (n p : ℕ) (f g : ℕ → ℚ) → p < n → ((q : ℕ) → q < p → f q ≡ g q) → f p <ℚ g p → IsLexLess n f g
 less_at n p f g h e l =
     record {
       by = record {
@@ -102,6 +102,11 @@ less_at n p f g h e l =
         above = linear (f p ∷ g p ∷ []) ((at 0 ⟨<⟩ at 1) ∷ []) (lit (pos 0) ⟨<⟩ (at 1 ⟨-⟩ at 0)) (λ one z u v. omega (arith, ints)) (l, tt);
       };
     }
+
+pub order_at : (n p : ℕ) (f g : ℕ → ℚ) (order : Ordering) → p < n → ((q : ℕ) → q < p → f q ≡ g q) → Compares (f p) (g p) order → is_ne order ≡ true → LexCompares n f g order
+order_at n p f g Less h e l differ = less_at n p f g h e l
+order_at n p f g Equal h e l differ = absurd (let no : false ≡ true = differ in cc)
+order_at n p f g Greater h e l differ = less_at n p g f h (λ q k. sym (e q k)) l
 
 -- ---- the signs of cells
 module _ (n : WholeTableau) (i c : ℕ) (t : IsTableau n) (h : i < length n.basics) where

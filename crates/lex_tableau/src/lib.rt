@@ -3,10 +3,10 @@
 //! Callers may rely on: `Work::pivot` pivots, or gives `Unfit` exactly at the first step that does
 //! not fit and changes nothing; `Tableau::ratio_row`; `PivotCount` counts pivots at no cost.
 //! Definitions: `specs::Rows` has tableaux and the fractions that they stand for, `Starts` systems
-//! and their starts, `Pivots` the steps of a pivot in order and the tableau that it makes where they
-//! fit, `Ratio` the lexicographic row.
-//! Private words: `specs::Keys` and the module `ratio`, which compares rows by their keys; `columns`,
-//! which keeps where the start's variables stand.
+//! and their starts, `Pivots` the steps of a pivot in order and the tableau that it makes where
+//! they fit, `Ratio` the lexicographic row.
+//! Private words: `specs::Keys` and the module `ratio`, which compares rows by their keys;
+//! `columns`, which keeps where the start's variables stand.
 //! Lemmas for callers: `proofs::SystemLemmas` and `TableauLemmas`, determined by their fractions.
 //! A change here touches: `zero_sum_lp`, `lemke_pivot`, `reply_polytope`, `basis_enum` and
 //! `enummixed`.

@@ -92,10 +92,9 @@ impl<'a> Keys<'a> {
             (quotient_of t.starts (tableau t) column best) result }
     {
         for place in 0..self.rated + 1 {
-            match self.compare_at(column, row, best, place) {
-                Ordering::Less => return Ordering::Less,
-                Ordering::Equal => {}
-                Ordering::Greater => return Ordering::Greater,
+            let order = self.compare_at(column, row, best, place);
+            if order.is_ne() {
+                return order;
             }
         }
         Ordering::Equal

@@ -80,9 +80,5 @@ pub fn numbered(alloc: Global, first: u32, count: u32) -> Result<Vec<u32>, Memor
     requires { first + count < 2 ^ 32 }
     ensures { IfOk result (λ numbers. AreNumbered first count numbers.items) }
 {
-    let mut numbers = Vec::new(alloc);
-    for k in 0..count {
-        numbers.push(first + k)?;
-    }
-    Ok(numbers)
+    Ok((first..first + count).collect(alloc)?)
 }

@@ -325,12 +325,7 @@ impl Tableau {
         ensures column { IsIndexOf self.now.nonbasics variable result }
         ensures valid { IsTableau self.now }
     {
-        for col in 0..self.nonbasics.len() {
-            if self.nonbasics[col] == variable {
-                return Some(col);
-            }
-        }
-        None
+        self.nonbasics.iter().position(|v| *v == variable)
     }
 
     /// The lexicographic row of a column: the rated row with a positive entry there whose key,
@@ -353,8 +348,8 @@ impl Tableau {
         keys.ratio_row(col)
     }
 
-    // The tableau whose numbers, which the pivot made, are in a room. Its variables are written over
-    // the other lists there.
+    // The tableau whose numbers, which the pivot made, are in a room. Its variables are written
+    // over the other lists there.
     fn written_into(&self, room: Room, row: usize, col: usize) -> Result<Tableau, Memory>
         requires row_in { row < self.now.rated }
         requires col_in { col < length self.now.nonbasics }

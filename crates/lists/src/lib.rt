@@ -4,12 +4,12 @@
 //! Callers may rely on: `lists_are_ordered`: the order of lists of numbers is strict, and lists in
 //! order are determined by their members.
 //! Definitions: `specs::Options` has `>>=`, by which a definition goes on with what it found;
-//! `specs::Orders` the order of lists; `specs::Listed` the list of the numbers that pass a test, and
-//! the index of a number in a list.
+//! `specs::Orders` the order of lists; `specs::Listed` the list of the numbers that pass a test,
+//! and the index of a number in a list; `specs::Products` the pairs of two lists.
 //! Lemmas for callers: `proofs::OptionLemmas`, `ElementLemmas` (lists, their elements and members,
 //! and lists in an order), `AscendingNumberLemmas`, `ListedLemmas`, `NumberLemmas` and
-//! `OrderLemmas`; `DeniedLemmas` and `ChosenElementLemmas`, on what cannot be denied of finitely many
-//! numbers and elements. A lemma that names a word of another crate stands in that crate.
+//! `OrderLemmas`; `DeniedLemmas` and `ChosenElementLemmas`, on what cannot be denied of finitely
+//! many numbers and elements. A lemma that names a word of another crate stands in that crate.
 //! A change here touches: the order of reduced strategies and of choice lists, and what the readers
 //! of files take off their tokens.
 #![tactic(auto)]

@@ -85,7 +85,7 @@ tree_line-answered behaviours exist tree valid game recall number line =
     bind-answered (line_entries number sizes line) (tree_judged number tree) (entries-answered number sizes line) (λ entries h.
     let behaviour = behaviours.sound (game_of_tree tree) entries game (told-tested number sizes line entries h) in
     bind-answered (such_that (λ v. tree_verdict tree entries v.0 v.1)) (tree_told number)
-    (such_that-answered (λ v. tree_verdict tree entries v.0 v.1) (rw behaviour.1 (λ none. exist tree behaviour.0 valid recall (λ verdict reply h. none (verdict, reply) h))))
+    (such_that-answered (λ v. tree_verdict tree entries v.0 v.1) (rw behaviour.1 (exist tree behaviour.0 valid recall)))
     (λ verdict _. tree_told-answered number verdict))
 
 pub tree_checks-answered : TestedEntriesAreBehaviours → TreeVerdictsExist → ((tree : GameTree) → IsGameTree tree → IsTree (game_of_tree tree)) → (tree : GameTree) (text : List ℕ) → IsGameTree tree → AllRecall (game_of_tree tree) → IsAnswered (tree_check tree text)

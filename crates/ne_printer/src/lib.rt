@@ -1,11 +1,11 @@
 //! The text of equilibria: lines and fractions, and lines read back.
 //!
-//! Callers may rely on: `line`, `push_line`, `push_numbers`, `fraction` and `push_fraction` write the
-//! defined bytes; `first_line` cuts a text after its first line; `read_line` gives a line's entries,
-//! or `Bad`; `lines_read_back`.
+//! Callers may rely on: `line`, `push_line`, `push_numbers`, `fraction` and `push_fraction` write
+//! the defined bytes; `first_line` cuts a text after its first line; `read_line` gives a line's
+//! entries, or `Bad`; `lines_read_back`.
 //! Definitions: `game_theory` has the text of a line; `specs::Entries` that of numbers after a
-//! name, `specs::TextLines` the lines of a text (`lines_of`), `specs::ReadLines` what a line reads as
-//! (`line_in`).
+//! name, `specs::TextLines` the lines of a text (`lines_of`), `specs::ReadLines` what a line reads
+//! as (`line_in`).
 //! Lemmas for callers: `proofs::LineTextLemmas` and `LinesReadLemmas`, on lines written and read.
 //! A change here touches: the lines that the tools print, and those that `check` reads.
 #![tactic(auto)]
@@ -35,8 +35,8 @@ pub fn fraction(alloc: Global, value: Frac) -> Result<Vec<u8>, Memory>
     Ok(value.to_string(alloc)?.into_bytes())
 }
 
-/// Adds the text of a fraction to a text, which stays as it was where memory runs out. A whole number from 0 to 9,
-/// as most are, takes no memory besides.
+/// Adds the text of a fraction to a text, which stays as it was where memory runs out. A whole
+/// number from 0 to 9, as most are, takes no memory besides.
 ///
 /// # Errors
 ///
@@ -77,8 +77,8 @@ pub fn push_numbers(
     pushed
 }
 
-/// Adds the line of an equilibrium with these entries to a text: `NE,`, the entries with commas between them, and
-/// a line feed.
+/// Adds the line of an equilibrium with these entries to a text: `NE,`, the entries with commas
+/// between them, and a line feed.
 ///
 /// # Errors
 ///
@@ -90,7 +90,8 @@ pub fn push_line(alloc: Global, text: &mut Vec<u8>, entries: &[Frac]) -> Result<
     push_numbers(alloc, text, line_start(entries), entries)
 }
 
-/// The line of an equilibrium with these entries: `NE,`, the entries with commas between them, and a line feed.
+/// The line of an equilibrium with these entries: `NE,`, the entries with commas between them, and
+/// a line feed.
 ///
 /// # Errors
 ///

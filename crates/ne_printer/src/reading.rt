@@ -37,21 +37,14 @@ impl<T: Drop> From<AllocFailed<T>> for LineStop {
 }
 
 // The number that digits stand for, where it is not above the greatest.
+#[tactic(auto, using(crate::proofs::NumeralLemmas::numeral_text))]
 fn value(digits: &[u8]) -> Option<u128>
     requires { IsShortNumeral digits.now }
     ensures { MatchOption result (2 ^ 127 - 1 < digits_value 10 digits.now)
         (λ n. (n ≡ digits_value 10 digits.now) × (n ≤ 2 ^ 127 - 1)) }
 {
-    let Ok(text) = str::from_utf8(digits) else {
-        return None;
-    };
-    let Ok(number) = text.parse::<u128>() else {
-        return None;
-    };
-    if number > MOST {
-        return None;
-    }
-    Some(number)
+    let number = str::from_utf8(digits).ok()?.parse::<u128>().ok()?;
+    (number <= MOST).then_some(number)
 }
 
 // Whether all are digits.

@@ -1,7 +1,8 @@
 //! Files of games in table form, read from their tokens.
 //!
-//! Callers may rely on: `read` gives the table of a file; a fault with its kind and offset, or the
-//! limit on payoffs, comes exactly where the tokens are no file; tokens have an answer, and only one.
+//! Callers may rely on: `read` gives the table of a file; a fault with its kind and offset comes
+//! exactly where the tokens are no file and do not begin as one of too many payoffs, and the limit
+//! on payoffs exactly where they do; tokens have an answer, and only one.
 //! Definitions: `specs::TableFile` has the grammar, `specs::Faults` the faults of tokens that are
 //! no file, `specs::Stops` what tokens answer (`table_in`), `specs::Texts` how a fault's kind is
 //! displayed.

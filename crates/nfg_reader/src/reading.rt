@@ -56,8 +56,8 @@ impl fmt::Display for NfgKind {
     }
 }
 
-/// A fault in a file of a table: its kind, and the byte offset from 0 of the token named, or the source's length
-/// where the tokens end too early.
+/// A fault in a file of a table: its kind, and the byte offset from 0 of the token named, or the
+/// source's length where the tokens end too early.
 #[derive(Clone, Copy, Debug, PartialEq, Eq)]
 pub struct NfgFault {
     /// The offset.
@@ -119,10 +119,10 @@ fn table(alloc: Global, front: Front, payoffs: Vec<Frac>) -> Result<Table, Alloc
 ///
 /// # Errors
 ///
-/// `Fault` exactly where the tokens are no file of a table and their strategies do not ask for more than 1,048,576
-/// payoffs: its kind, and the offset of the first token with which no file can begin any more, or the source's length
-/// where the tokens end too early. `TooLarge` exactly where the strategies do ask for more. `Memory` where memory ran
-/// out.
+/// `Fault` exactly where the tokens are no file of a table and their strategies do not ask for more
+/// than 1,048,576 payoffs: its kind, and the offset of the first token with which no file can begin
+/// any more, or the source's length where the tokens end too early. `TooLarge` exactly where the
+/// strategies do ask for more. `Memory` where memory ran out.
 pub fn read(alloc: Global, tokens: &Tokens) -> Result<Table, NfgStop>
     ensures { Gives Memory (table_in tokens.now) result }
 {
@@ -150,8 +150,8 @@ pub fn tables_are_answered()
     ensures { (tokens : TokenList) → IsAnswered (table_in tokens) }
 {}
 
-/// The tokens of a source have one fault at most; they have none where they are a file of a table, and one where they
-/// are none.
+/// The tokens of a source have one fault at most; they have none where they are a file of a table,
+/// and one where they are none.
 pub fn faults_are_single()
     ensures one { (tokens : TokenList) (kind other : NfgKind) (at offset : ℕ)
         → IsFault tokens kind at → IsFault tokens other offset → (kind ≡ other) × (at ≡ offset) }

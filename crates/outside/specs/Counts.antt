@@ -1,4 +1,4 @@
--- Counts of faults, of selections and of ends. A count never falls and stands still at 2^64 - 1.
+-- Counts of faults, of selections and of ends. A count stands still at 2^64 - 1.
 use Rattle.std.specs.Prelude.{ℕ, ◌≡◌, ◌⊎◌, ◌-◌, ◌^◌, ◌<◌, ◌≤◌, ◌+◌, min, OnOk, OnErr}
 use Rattle.std.specs.Prelude.{Result}
 

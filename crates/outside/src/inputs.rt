@@ -13,16 +13,18 @@ pub struct OpenFailed;
 #[derive(Clone, Copy, Debug, PartialEq, Eq)]
 pub struct ReadFailed;
 
-/// Inputs by name, and one without a name. At most one of them is selected, and only that one is read.
+/// Inputs by name, and one without a name. At most one of them is selected, and only that one is
+/// read.
 pub trait Inputs {
-    /// What can be seen of them: bytes where they are known, names that are known to be those of no input, the selected and the failed input, whether the end
-    /// of the selected one was met, and the counts of selections, of those in which the end was met, and of failed
-    /// calls. A count stands still at 2^64 - 1.
+    /// What can be seen of them: bytes where they are known, names that are known to be those of no
+    /// input, the selected and the failed input, whether the end of the selected one was met, and
+    /// the counts of selections, of those in which the end was met, and of failed calls. A count
+    /// stands still at 2^64 - 1.
     ghost seen: { Self → InputsSeen };
 
-    /// Selects an input, of which all bytes are then left, and whose end was not met yet. A name is kept and not
-    /// copied. A name that is known to be that of no input is refused. `OpenFailed` counts one more in `open_faults`; then the input is the failed one, and nothing is
-    /// selected.
+    /// Selects an input, of which all bytes are then left, and whose end was not met yet. A name is
+    /// kept and not copied. A name that is known to be that of no input is refused. `OpenFailed`
+    /// counts one more in `open_faults`; then the input is the failed one, and nothing is selected.
     fn select(&mut self, name: Option<String>) -> Result<(), OpenFailed>
         ensures selects { OnOk result ((seen self.new).selected
             ≡ Some (option_map string_bytes name)) }
@@ -42,10 +44,11 @@ pub trait Inputs {
         ensures counts { Counts (seen self.old).open_faults (seen self.new).open_faults result }
         ensures other_count { (seen self.new).read_faults ≡ (seen self.old).read_faults };
 
-    /// Reads the next bytes of the selected input to the front of `buf`, and answers how many. 0 comes for
-    /// a buffer that is not empty only at the end of the input, which is thereby met, and which is counted once in
-    /// each selection. With nothing selected it answers 0. `ReadFailed` comes only where an input was selected, and
-    /// counts one more in `read_faults`; that input is then the failed one, and nothing is selected.
+    /// Reads the next bytes of the selected input to the front of `buf`, and answers how many. 0
+    /// comes for a buffer that is not empty only at the end of the input, which is thereby met, and
+    /// which is counted once in each selection. With nothing selected it answers 0. `ReadFailed`
+    /// comes only where an input was selected, and counts one more in `read_faults`; that input is
+    /// then the failed one, and nothing is selected.
     fn read(&mut self, buf: &mut [u8]) -> Result<usize, ReadFailed>
         ensures bound { ReadsAtMost result buf.new }
         ensures bytes { OnOk result

@@ -5,7 +5,8 @@
 //! `MemInputs` and `MemSink` do exactly what their states say; a `Gate` changes no answer;
 //! `read_some` hands on what a source gives.
 //! Definitions: `specs::Inputs` and `specs::Sink` say what contracts see of both, `specs::Counts`
-//! how calls that fail are counted, `specs::RealInputs` and `specs::RealSink` what the real ones keep.
+//! how calls that fail are counted, `specs::RealInputs` and `specs::RealSink` what the real ones
+//! keep.
 //! Private words: the module `tries`.
 //! A change here touches: the contract of `run`, and `claims`, `basis_enum` and `enummixed`, which
 //! pass the gate.

@@ -10,9 +10,9 @@ ghost use Rattle.outside.specs.MemInputs.{first_named, bytes_held, bytes_left, b
 use crate::inputs::{Inputs, OpenFailed, ReadFailed};
 use std::marker::Model;
 
-/// Inputs that are held in memory and told: the bytes under no name, and names with their bytes. Calls of
-/// `select` and `read` are numbered together from 1; the number stops at 2^64 - 1. The calls whose numbers
-/// are given fail.
+/// Inputs that are held in memory and told: the bytes under no name, and names with their bytes.
+/// Calls of `select` and `read` are numbered together from 1; the number stops at 2^64 - 1. The
+/// calls whose numbers are given fail.
 #[derive(Drop)]
 pub struct MemInputs {
     plain: Vec<u8>,
@@ -52,8 +52,8 @@ impl Model for MemInputs {
 }
 
 impl MemInputs {
-    /// Inputs with these bytes under no name, these names with bytes, of which the first counts where names are
-    /// equal, and these numbers of the calls that fail. Takes no memory.
+    /// Inputs with these bytes under no name, these names with bytes, of which the first counts
+    /// where names are equal, and these numbers of the calls that fail. Takes no memory.
     pub fn new(plain: Vec<u8>, named: Vec<(String, Vec<u8>)>, failing: Vec<u64>) -> MemInputs
         ensures state { result
             ≡ record {
@@ -134,7 +134,8 @@ impl MemInputs {
         after(bytes, self.position)
     }
 
-    // Counts the end of the selected input, where a read with this room that answered `count` met it first.
+    // Counts the end of the selected input, where a read with this room that answered `count` met
+    // it first.
     fn count_end(&mut self, room: usize, count: usize)
         requires selected { IsSome self.old.selected }
         ensures at_end { self.new.at_end
@@ -226,8 +227,8 @@ impl Inputs for MemInputs {
         Ok(())
     }
 
-    /// Fails exactly where an input is selected and the call's number is one that fails. Else it takes as many
-    /// bytes as the buffer has room for and are left.
+    /// Fails exactly where an input is selected and the call's number is one that fails. Else it
+    /// takes as many bytes as the buffer has room for and are left.
     fn read(&mut self, buf: &mut [u8]) -> Result<usize, ReadFailed>
         ensures bound { ReadsAtMost result buf.new }
         ensures bytes { OnOk result

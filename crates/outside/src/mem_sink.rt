@@ -9,8 +9,8 @@ use answers::Memory;
 use std::alloc::Global;
 use std::marker::Model;
 
-/// A sink that keeps the bytes in memory and tells them. One write takes at most `most` bytes, and all writes
-/// together at most `limit`.
+/// A sink that keeps the bytes in memory and tells them. One write takes at most `most` bytes, and
+/// all writes together at most `limit`.
 #[derive(Drop)]
 pub struct MemSink {
     bytes: Vec<u8>,

@@ -13,9 +13,9 @@ use std::io::{ErrorKind, Read};
 use std::marker::Model;
 use std::rt::Files;
 
-/// Inputs of a runtime: standard input under no name, and files under their names. It does not tell bytes.
-/// A folder opens too, and its first read fails. A call of std that was interrupted is repeated, at most 1,000
-/// times in one call of the inputs; after that the call fails.
+/// Inputs of a runtime: standard input under no name, and files under their names. It does not tell
+/// bytes. A folder opens too, and its first read fails. A call of std that was interrupted is
+/// repeated, at most 1,000 times in one call of the inputs; after that the call fails.
 #[derive(Drop)]
 pub struct RealInputs<'a, R: Files + Input + Drop> {
     rt: &'a R,
@@ -77,7 +77,8 @@ impl<'a, R: Files + Input + Drop> RealInputs<'a, R> {
         }
     }
 
-    // Counts the end of the selected input, where a read with this room that answered `count` met it first.
+    // Counts the end of the selected input, where a read with this room that answered `count` met
+    // it first.
     fn count_end(&mut self, room: usize, count: usize)
         requires selected { IsSome self.old.selected }
         ensures at_end { self.new.at_end

@@ -8,9 +8,9 @@ use crate::tries::MOST_TRIES;
 use std::io::{ErrorKind, Write};
 use std::marker::Model;
 
-/// A sink that hands the bytes on to a writer, and does not tell them. A call of the writer that was
-/// interrupted is repeated, at most 1,000 times in one call of the sink; after that, and where the writer takes
-/// nothing of a piece that is not empty, the call fails.
+/// A sink that hands the bytes on to a writer, and does not tell them. A call of the writer that
+/// was interrupted is repeated, at most 1,000 times in one call of the sink; after that, and where
+/// the writer takes nothing of a piece that is not empty, the call fails.
 #[derive(Drop)]
 pub struct RealSink<W: Write + Drop> {
     inner: W,
@@ -85,8 +85,8 @@ impl<W: Write + Drop> Sink for RealSink<W> {
     }
 }
 
-// Writes the front of a piece and answers how many bytes were taken, or None where the writer failed or took
-// nothing of a piece that is not empty.
+// Writes the front of a piece and answers how many bytes were taken, or None where the writer
+// failed or took nothing of a piece that is not empty.
 fn write_some<W: Write>(inner: &mut W, piece: &[u8]) -> Option<usize>
     ensures bound { IfSome result (λ n. n ≤ length piece.now) }
     ensures some { 0 < length piece.now → IfSome result (λ n. 0 < n) }

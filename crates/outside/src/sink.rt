@@ -9,12 +9,12 @@ pub struct WriteFailed;
 
 /// What takes bytes.
 pub trait Sink {
-    /// What can be seen of it: the bytes taken, where they are known, whether it is flushed, and the count of
-    /// failed calls.
+    /// What can be seen of it: the bytes taken, where they are known, whether it is flushed, and
+    /// the count of failed calls.
     ghost seen: { Self → SinkSeen };
 
-    /// Takes bytes from the front of a piece, and answers how many: at least one where the piece is not
-    /// empty. `WriteFailed` counts one more in `faults`, and then nothing is taken.
+    /// Takes bytes from the front of a piece, and answers how many: at least one where the piece is
+    /// not empty. `WriteFailed` counts one more in `faults`, and then nothing is taken.
     fn write(&mut self, piece: &[u8]) -> Result<usize, WriteFailed>
         ensures bound { IfOk result (λ n. n ≤ length piece.now) }
         ensures some { 0 < length piece.now → IfOk result (λ n. 0 < n) }

@@ -16,7 +16,8 @@ use answers::Memory;
 use game_core::{Tree, trees_are_game_trees};
 use std::alloc::Global;
 
-// The first of these nodes with another edge before it than before the first node, where there is one.
+// The first of these nodes with another edge before it than before the first node, where there is
+// one.
 fn other_member(members: &[u32], edges: &[Option<(u32, u32)>]) -> Option<u32>
     requires some { 0 < length members.now }
     requires within { (j : ℕ) → j < length members.now
@@ -53,9 +54,7 @@ fn forgets_at(
     tree.stands_for_game_tree();
     let set = &tree.sets()[number];
     let members = set.members();
-    let Some(second_node) = other_member(members, edges) else {
-        return None;
-    };
+    let second_node = other_member(members, edges)?;
     Some(Forgets {
         player,
         set: set.label(),
@@ -141,9 +140,9 @@ fn edges_before_sets(
 ///
 /// # Errors
 ///
-/// `Forgets` exactly where a player lacks perfect recall: the first such player, that player's first set in which two
-/// nodes have different own histories, the set's first node, and its first node with another own history. `Memory`
-/// where memory ran out.
+/// `Forgets` exactly where a player lacks perfect recall: the first such player, that player's
+/// first set in which two nodes have different own histories, the set's first node, and its first
+/// node with another own history. `Memory` where memory ran out.
 pub fn find_recall(alloc: Global, tree: &Tree) -> Result<Recall, RecallStop>
     ensures { Gives stops.Memory (recall_of tree.now) result }
 {

@@ -2,7 +2,8 @@
 //! all of the player's own earlier sets and actions.
 //!
 //! Callers may rely on: `find_recall` gives the last own set and action before each set, or the
-//! first player who forgets, with the set and two nodes; `recalls_are_single`, `recalls_are_answered`.
+//! first player who forgets, with the set and two nodes; `recalls_are_single`,
+//! `recalls_are_answered`.
 //! Definitions: `specs::Found` says what is found of a tree (`recall_of`); `game_theory` says what
 //! perfect recall is.
 //! Private words: `specs::LastEdges` and `specs::Members`: histories are compared by their ends.

@@ -15,8 +15,8 @@ fn edge_of(last: Option<LastMove>) -> Option<(u32, u32)>
     Some((set, action))
 }
 
-// For each node the last own set and action before it of the player who chooses there; nothing where there is none,
-// and where nobody does.
+// For each node the last own set and action before it of the player who chooses there; nothing
+// where there is none, and where nobody does.
 pub(crate) fn last_edges(alloc: Global, tree: &Tree) -> Result<Vec<Option<(u32, u32)>>, Memory>
     ensures length { IfOk result (λ edges. length edges.items ≡ length tree.now.nodes) }
     ensures edges { IfOk result (λ edges. AreLastEdges (game_of_tree tree.now) edges.items) }

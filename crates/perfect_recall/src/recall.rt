@@ -4,8 +4,8 @@ ghost use Rattle.std.specs.Prelude.{◌≡◌};
 use answers::Memory;
 use std::marker::Model;
 
-/// A player who forgets: the first one, in the first of that player's sets in which two nodes have different own
-/// histories. Players and nodes are numbered from 0.
+/// A player who forgets: the first one, in the first of that player's sets in which two nodes have
+/// different own histories. Players and nodes are numbered from 0.
 #[derive(Clone, Copy, Debug, PartialEq, Eq)]
 pub struct Forgets {
     /// The player.
@@ -37,7 +37,8 @@ impl From<Memory> for RecallStop {
     }
 }
 
-/// The last own set and action before each information set of a tree in which each player has perfect recall.
+/// The last own set and action before each information set of a tree in which each player has
+/// perfect recall.
 #[derive(Debug, Drop)]
 pub struct Recall {
     before: Vec<Option<(u32, u32)>>,
@@ -59,8 +60,8 @@ impl Recall {
         Recall { before }
     }
 
-    /// For each set in order the last own set and action before it; nothing where there is none, and at a set of
-    /// chance.
+    /// For each set in order the last own set and action before it; nothing where there is none,
+    /// and at a set of chance.
     pub fn before(&self) -> &[Option<(u32, u32)>]
         ensures { result.now ≡ self.now }
     {

@@ -4,8 +4,8 @@ use Rattle.game_theory.specs.Children.{child}
 use Rattle.rational.specs.Tests.{eq_ℚ}
 use Rattle.rational.specs.Rational.{ℚ, ◌*ℚ◌, zero_ℚ}
 use Rattle.rational.specs.Sum.{sum_to}
-use Rattle.frac128.specs.Steps.{Step, step_of}
-use Rattle.frac128.specs.declared.steps.Op.TheVariants.{Add, Mul}
+use Rattle.frac128.specs.Steps.{Step, added_product_steps, step_of}
+use Rattle.frac128.specs.declared.steps.Op.TheVariants.{Add}
 use Rattle.game_theory.specs.Trees.{Tree}
 use Rattle.game_theory.specs.Behaviour.{value, pure}
 
@@ -13,7 +13,7 @@ use Rattle.game_theory.specs.Behaviour.{value, pure}
 -- of the child, the product and the addition.
 abbrev pub branch_steps : ℚ → ℚ → ℚ → List Step → List Step
 branch_steps prob sum v steps =
-    if eq_ℚ prob zero_ℚ then [] else steps ++ step_of Mul prob v ∷ step_of Add sum (prob *ℚ v) ∷ []
+    if eq_ℚ prob zero_ℚ then [] else steps ++ added_product_steps sum prob v
 
 -- the steps at a chance node, where these are the probabilities of its first actions, the values of its children and the steps of
 -- these: for each action in order those with which the child's product is added to the sum so far

@@ -3,6 +3,7 @@
 use Rattle.std.specs.Prelude.{ℕ, List, map}
 use Rattle.std.specs.List.{flat_map, range_with_len}
 use Rattle.answers.specs.Answers.{Answer, IsSingle, refused_by}
+use Rattle.lists.specs.Products.{cartesian_product}
 use Rattle.frac128.specs.FirstUnfit.{all_fit}
 use Rattle.frac128.specs.Steps.{Step}
 use Rattle.game_theory.specs.Behaviour.{pure, value}
@@ -38,7 +39,7 @@ node_values t choice nodes =
 
 -- the nodes and players in this order
 abbrev pub node_players : Tree → List ℕ → List (ℕ × ℕ)
-node_players t nodes = flat_map (λ k. map (λ i. (k, i)) (range_with_len 0 t.players)) nodes
+node_players t nodes = cartesian_product nodes (range_with_len 0 t.players)
 
 -- the steps of what a node is worth to a player
 abbrev pub steps_of : Tree → (ℕ → ℕ) → ℕ × ℕ → List Step

@@ -62,7 +62,7 @@ impl<'a> Play<'a> {
     /// # Errors
     ///
     /// `Range` exactly where a step does not fit: the first, players in order. `Memory` where
-    /// memory ran out.
+    /// memory ran out. What the list then holds is not said.
     pub fn push_payoffs(
         &self,
         shortcuts: &mut Shortcuts,
@@ -91,7 +91,7 @@ impl<'a> Play<'a> {
     /// # Errors
     ///
     /// `Range` exactly where a step does not fit: the first in this order. `Memory` where memory
-    /// ran out.
+    /// ran out. What the list then holds is not said.
     pub fn push_all_values(
         &self,
         shortcuts: &mut Shortcuts,

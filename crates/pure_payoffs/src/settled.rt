@@ -10,8 +10,9 @@ use frac128::Frac;
 use game_core::{Kind, MOST_PAYOFFS, Tree};
 use std::alloc::Global;
 
-/// What nodes in whose subtrees no player moves are worth to the players, as far as it was asked for. Of the nodes
-/// on a path the topmost is kept, and no more in all than a table may have payoffs.
+/// What nodes in whose subtrees no player moves are worth to the players, as far as it was asked
+/// for. Of the nodes on a path the topmost is kept, and no more in all than a table may have
+/// payoffs.
 #[derive(Debug, Drop)]
 pub(crate) struct Settled {
     // For each node a place for each player, or no place at all.

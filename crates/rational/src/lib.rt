@@ -3,8 +3,8 @@
 //! Callers may rely on: the functions without a body, each a law: lowest terms, a commutative ring,
 //! an ordered field, decided order, the greatest and the least, midpoints, sums and means.
 //! Definitions: `specs::Rational` has `ℚ` in lowest terms, so that equality is `≡`, with `frac` and
-//! `whole`; `Sum` sums below a bound, `Extremes` the greatest and the least of numbers, `Tests` tests
-//! that compute, `Text` the text of a number, `Laws` the laws.
+//! `whole`; `Sum` sums below a bound, `Extremes` the greatest and the least of numbers, `Tests`
+//! tests that compute, `Text` the text of a number, `Laws` the laws.
 //! Lemmas for callers: the simplest first, `refl` at literals, `simp` with `proofs::Rules`, `ring`
 //! and `combine` of `Ring`, `linear` of `Linear`; `Examples` uses each once.
 //! A change here touches: every proof about payoffs, probabilities and tableaux, since nearly all

@@ -1,6 +1,7 @@
 -- The sizes of a tree's reduced form and their limits, and the steps of its cells.
 use Rattle.std.specs.Prelude.{ℕ, ◌*◌, List, length, map}
-use Rattle.std.specs.List.{enumerate_from, flat_map, range_with_len, sum_by}
+use Rattle.std.specs.List.{enumerate_from, range_with_len, sum_by}
+use Rattle.lists.specs.Products.{cartesian_product}
 use Rattle.game_theory.specs.OwnSets.{own_sets}
 use Rattle.game_theory.specs.Profiles.{profile_count, profile_at}
 use Rattle.game_theory.specs.Trees.{Tree}
@@ -31,8 +32,8 @@ CellIndex = ℕ × ℕ
 -- the cells of the form over these strategies: profiles in order, and in each the players
 abbrev pub cells : Tree → List (List (List ℕ)) → List CellIndex
 cells t strategies =
-    flat_map (λ k. map (λ i. (k, i)) (range_with_len 0 t.players))
-    (range_with_len 0 (profile_count (map length strategies)))
+    cartesian_product (range_with_len 0 (profile_count (map length strategies)))
+    (range_with_len 0 t.players)
 
 -- the steps of player i's payoff at the profile with number k
 abbrev pub cell_steps : Tree → List (List (List ℕ)) → ℕ → ℕ → List Step

@@ -63,8 +63,8 @@ fn push_cells(
     }
 }
 
-/// What each profile pays each player, profiles in file order. `places` has each set's place among its owner's
-/// own sets, and `counts` how many strategies each player has.
+/// What each profile pays each player, profiles in file order. `places` has each set's place among
+/// its owner's own sets, and `counts` how many strategies each player has.
 pub(crate) fn cells(
     alloc: Global,
     tree: &Tree,

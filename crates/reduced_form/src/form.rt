@@ -42,8 +42,8 @@ impl Model for Reduced {
 impl Reduced {
     ghost use Rattle.std.specs.Prelude.{◌≡◌};
 
-    /// For each player the reduced strategies in order, and in each for each own set in order its action, counted
-    /// from 1, or 0 for none.
+    /// For each player the reduced strategies in order, and in each for each own set in order its
+    /// action, counted from 1, or 0 for none.
     pub fn choices(&self) -> &Strategies
         ensures { result.now ≡ self.now.choices }
     {
@@ -96,14 +96,16 @@ fn table_of(
     Ok(Table::new(title, players, names, payoffs))
 }
 
-/// The reduced strategic form of a tree: all reduced strategies of each player, each once, in order, with the table
-/// of their profiles, in which each cell pays what every completion of its profile pays on the tree.
+/// The reduced strategic form of a tree: all reduced strategies of each player, each once, in
+/// order, with the table of their profiles, in which each cell pays what every completion of its
+/// profile pays on the tree.
 ///
 /// # Errors
 ///
-/// `TooLarge` exactly where the form would have more than 1,048,576 payoffs or, where it has not, more than
-/// 67,108,864 choices, which are counted before anything is built. `Range` exactly where both counts are within
-/// their limits and a step of a payoff does not fit: the first. `Memory` where memory ran out.
+/// `TooLarge` exactly where the form would have more than 1,048,576 payoffs or, where it has not,
+/// more than 67,108,864 choices, which are counted before anything is built. `Range` exactly where
+/// both counts are within their limits and a step of a payoff does not fit: the first. `Memory`
+/// where memory ran out.
 pub fn reduce(alloc: Global, tree: &Tree) -> Result<Reduced, ReduceStop>
     ensures answer { Gives stops.Memory (reduced_form_of tree.now) result }
     ensures completions { IfOk result (PaysCompletions tree.now) }

@@ -8,7 +8,8 @@
 //! Private words: `specs::Counts` and `Cells`, how the code counts and fills tables.
 //! Lemmas for callers: `proofs::FormAnswerLemmas` on what a tree answers, `FormLaws` and
 //! `FormCountLemmas` on the table, `OneFormLaws`.
-//! A change here touches: `behaviour_profile`, `enumpure_trees`, `two_player_tools`, `gambit_tools`.
+//! A change here touches: `behaviour_profile`, `enumpure_trees`, `two_player_tools`,
+//! `gambit_tools`.
 #![tactic(auto)]
 
 mod cells;

@@ -30,8 +30,8 @@ fn too_many_choices() -> ReduceStop
     ReduceStop::TooLarge(TooLarge::first_above(What::Choices, MOST_CHOICES))
 }
 
-/// How many reduced strategies each player has, where the form has no more payoffs than it may. Nothing is
-/// built, and counting stops where it is known to have more.
+/// How many reduced strategies each player has, where the form has no more payoffs than it may.
+/// Nothing is built, and counting stops where it is known to have more.
 pub(crate) fn count_all(alloc: Global, decisions: &Decisions) -> Result<Vec<usize>, ReduceStop>
     ensures counted { IfOk result (λ counts. AreCounted (game_of_tree decisions.now) counts.items) }
     ensures few { IfOk result

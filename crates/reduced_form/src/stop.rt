@@ -7,10 +7,11 @@ use std::alloc::{AllocError, AllocFailed};
 /// Why a tree was not reduced.
 #[derive(Clone, Copy, Debug, PartialEq, Eq)]
 pub enum ReduceStop {
-    /// The form would have more than 1,048,576 payoffs or, where it has not, more than 67,108,864 choices.
+    /// The form would have more than 1,048,576 payoffs or, where it has not, more than 67,108,864
+    /// choices.
     TooLarge(TooLarge),
-    /// A step of a player's payoff at a profile does not fit: the first, profiles in order and in each the players.
-    /// Both are numbered from 0.
+    /// A step of a player's payoff at a profile does not fit: the first, profiles in order and in
+    /// each the players. Both are numbered from 0.
     Range {
         /// The profile.
         profile: u32,

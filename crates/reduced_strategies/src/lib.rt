@@ -38,7 +38,8 @@ pub fn choices_have_reduced()
     ensures { ChoicesHaveReduced }
 {}
 
-/// A pure profile is an equilibrium of the strategic form exactly where, completed, it is an equilibrium of the tree.
+/// A pure profile is an equilibrium of the strategic form exactly where, completed, it is an
+/// equilibrium of the tree.
 pub fn pure_equilibria_are_those_of_the_tree()
     ensures { PureEquilibriaAreThoseOfTheTree }
 {}

@@ -16,8 +16,8 @@ use thiserror::Error;
 use words::Usage;
 use zero_sum_lp::NotConstant;
 
-/// Why a run is refused. The line on standard error is that of [`Refusal::line`]; the derived text is for
-/// debugging.
+/// Why a run is refused. The line on standard error is that of [`Refusal::line`]; the derived text
+/// is for debugging.
 #[derive(Debug, Drop, Error)]
 pub enum Refusal {
     /// The words are refused.
@@ -107,8 +107,8 @@ impl Refusal {
     ghost use Rattle.std.specs.Prelude.{◌≡◌, IfOk, MatchOption, string_bytes};
     ghost use Rattle.refusals.specs.Refusals.{status_of, refusal_line, HasFormedLine};
 
-    /// The status with which the program ends: 1 for the game, 2 for the words, 3 for an input, 4 for the
-    /// output, 5 for want of memory.
+    /// The status with which the program ends: 1 for the game, 2 for the words, 3 for an input, 4
+    /// for the output, 5 for want of memory.
     pub fn status(&self) -> u8
         ensures { result ≡ status_of self.now }
     {

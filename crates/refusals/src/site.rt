@@ -4,8 +4,9 @@ ghost use Rattle.std.specs.Prelude.{◌≡◌, ◌+◌};
 use basis_enum::Basis;
 use std::fmt;
 
-/// Where a step of the arithmetic stands. Profiles, choices, nodes, players, sequences, rows, polytopes and
-/// levels are numbered from 0, variables and the steps of a path from 1. Sequence 0 is the empty one.
+/// Where a step of the arithmetic stands. Profiles, choices, nodes, players, sequences, rows,
+/// polytopes and levels are numbered from 0, variables and the steps of a path from 1. Sequence 0
+/// is the empty one.
 #[derive(Debug, Drop)]
 pub enum Site {
     /// In the payoff of a player at a profile of a reduced form.

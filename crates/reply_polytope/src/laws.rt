@@ -1,5 +1,5 @@
-// The laws of the answers and of the systems. The functions do nothing: their contracts are laws, so
-// that a check proves them.
+// The laws of the answers and of the systems. The functions do nothing: their contracts are laws,
+// so that a check proves them.
 ghost use Rattle.reply_polytope.specs.AnsweredLaws.{PolytopesAreAnswered};
 ghost use Rattle.reply_polytope.specs.Laws.{SystemsAreThePolytopes};
 ghost use Rattle.reply_polytope.specs.Stops.{PolytopesAreSingle};
@@ -11,13 +11,14 @@ pub fn polytopes_are_single()
     ensures { PolytopesAreSingle }
 {}
 
-/// A game, each of whose players has a strategy, has an answer: a pair of systems, or why it has none.
+/// A game, each of whose players has a strategy, has an answer: a pair of systems, or why it has
+/// none.
 pub fn polytopes_are_answered()
     ensures { PolytopesAreAnswered }
 {}
 
-/// The solutions without negative entries of a game's two systems are the points of the best-response
-/// polytopes of its shifted payoffs.
+/// The solutions without negative entries of a game's two systems are the points of the
+/// best-response polytopes of its shifted payoffs.
 pub fn systems_are_the_polytopes()
     ensures { SystemsAreThePolytopes }
 {

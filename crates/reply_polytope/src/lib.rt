@@ -7,8 +7,8 @@
 //! Private words: `specs::Shapes`, systems of slacks whose cells stand in a list, and the shifted
 //! payoffs.
 //! Lemmas for callers: `proofs::PolytopeLemmas`, what the two systems of a game are;
-//! `EnumerableLemmas`, what `basis_enum` asks of them; `LeastLemmas`, that the least payoff is below
-//! each; `SingleLemmas`.
+//! `EnumerableLemmas`, what `basis_enum` asks of them; `LeastLemmas`, that the least payoff is
+//! below each; `SingleLemmas`.
 //! A change here touches: `enummixed`, and what it and `make` answer and refuse.
 #![tactic(auto)]
 

@@ -15,15 +15,16 @@ use std::alloc::Global;
 const MOST_LABELS: u64 = 128;
 
 /// The systems of the polytopes of both players' best replies. Variables are labels, numbered from
-/// 1: first the first player's strategies and then the second's. The first system has a row for each
-/// strategy of the second player and a column for each of the first's, and the second the other way
-/// round.
+/// 1: first the first player's strategies and then the second's. The first system has a row for
+/// each strategy of the second player and a column for each of the first's, and the second the
+/// other way round.
 ///
 /// # Errors
 ///
 /// `NotTwoPlayers` exactly where there is another number of players; `TooLarge` exactly where two
 /// have more than 128 strategies together; `Range` exactly where neither holds and a step of the
-/// shift of a player's payoffs does not fit, with the first such step. `Memory` where memory ran out.
+/// shift of a player's payoffs does not fit, with the first such step. `Memory` where memory ran
+/// out.
 pub fn polytopes(alloc: Global, table: &Table) -> Result<(System, System), PolyStop>
     ensures { Gives stops.Memory (polytopes_in (game_of table.now)) result }
 {

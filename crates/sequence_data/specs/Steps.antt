@@ -1,11 +1,10 @@
 -- The steps in which leaves go into the cells of a sequence form, leaf after leaf.
-use Rattle.std.specs.Prelude.{ℕ, List, [], ◌∷◌, ◌++◌, take}
+use Rattle.std.specs.Prelude.{ℕ, List, ◌∷◌, ◌++◌, take}
 use Rattle.std.specs.List.{enumerate_from}
 use Rattle.answers.specs.Answers.{Answer, refused_by}
-use Rattle.rational.specs.Rational.{ℚ, ◌*ℚ◌}
 use Rattle.frac128.specs.FirstUnfit.{all_fit, all_steps_fit}
-use Rattle.frac128.specs.Steps.{step_of, Step}
-use Rattle.frac128.specs.declared.steps.Op.TheVariants.{Add, Mul}
+use Rattle.frac128.specs.Steps.{added_product_steps, step_of, Step}
+use Rattle.frac128.specs.declared.steps.Op.TheVariants.{Add}
 use Rattle.sequence_data.specs.declared.types.Leaf.{Leaf}
 use Rattle.sequence_data.specs.declared.types.Cell.{Cell}
 use Rattle.sequence_data.specs.declared.stop.SeqStop.{SeqStop}
@@ -17,11 +16,6 @@ abbrev pub fit_at : ℕ → List Step → Answer SeqStop (Unit {0})
 fit_at place steps = refused_by (stops.Range place) (all_steps_fit steps)
 
 -- ---- into the cells
--- the product of a leaf's chance and a payoff is added to a sum
-abbrev pub added_product_steps : ℚ → ℚ → ℚ → List Step
-added_product_steps sum chance payoff =
-    step_of Mul chance payoff ∷ step_of Add sum (chance *ℚ payoff) ∷ []
-
 -- a leaf goes into its cell: its chance, and its chance times each payoff, are added to the cell's sums so far
 abbrev pub added_steps : Cell → Leaf → List Step
 added_steps c l =

@@ -99,8 +99,8 @@ fn with_leaf(cell: Cell, leaf: Leaf) -> Result<Cell, SeqStop>
 ///
 /// # Errors
 ///
-/// `Range` exactly where a step does not fit: the first, leaves in order and in each the chance and then both
-/// payoffs. `Memory` where memory ran out.
+/// `Range` exactly where a step does not fit: the first, leaves in order and in each the chance and
+/// then both payoffs. `Memory` where memory ran out.
 pub(crate) fn gather(alloc: Global, leaves: &[Leaf], columns: u32) -> Result<Vec<Cell>, SeqStop>
     requires columns { 0 < columns }
     requires rows { All (λ l. l.row < 2 ^ 32) leaves.now }

@@ -12,7 +12,8 @@ use frac128::Frac;
 use std::alloc::{AllocError, Global};
 use std::marker::Model;
 
-/// A player's sequences: the empty one, numbered 0, and then, own set by own set, one for each action.
+/// A player's sequences: the empty one, numbered 0, and then, own set by own set, one for each
+/// action.
 #[derive(Debug, Drop)]
 pub struct Side {
     sequences: u32,
@@ -64,9 +65,9 @@ impl Side {
     }
 }
 
-/// The sequence form of a game with two players. Each set has an action, and comes after a sequence with a
-/// smaller number than its own; the sequences from 1 on belong to the sets in order. There is a leaf, no chance
-/// is negative, and the cells and the extreme payoffs are those of the leaves.
+/// The sequence form of a game with two players. Each set has an action, and comes after a sequence
+/// with a smaller number than its own; the sequences from 1 on belong to the sets in order. There
+/// is a leaf, no chance is negative, and the cells and the extreme payoffs are those of the leaves.
 #[derive(Debug, Drop)]
 pub struct SeqForm {
     first: Side,
@@ -83,7 +84,15 @@ impl Model for SeqForm {
 
     ghost coded = { code_of_form };
 
-    ghost view = { λ f. record { first = f.first; second = f.second; leaves = f.leaves.items; cells = f.cells.items; greatest_one = f.extremes.greatest_one; greatest_two = f.extremes.greatest_two; least_one = f.extremes.least_one } };
+    ghost view = { λ f. record {
+      first = f.first;
+      second = f.second;
+      leaves = f.leaves.items;
+      cells = f.cells.items;
+      greatest_one = f.extremes.greatest_one;
+      greatest_two = f.extremes.greatest_two;
+      least_one = f.extremes.least_one;
+    } };
 
     ghost invariant = { λ f. IsFormData
         (record {
@@ -102,8 +111,8 @@ impl SeqForm {
     ///
     /// # Errors
     ///
-    /// `Range` exactly where a step does not fit: the first, leaves in order and in each the chance and then both
-    /// payoffs. `Memory` where memory ran out.
+    /// `Range` exactly where a step does not fit: the first, leaves in order and in each the chance
+    /// and then both payoffs. `Memory` where memory ran out.
     pub fn of_leaves(
         alloc: Global,
         first: Side,

@@ -2,9 +2,9 @@
 //! and the extreme payoffs; and both players' plans.
 //!
 //! Callers may rely on: `SeqForm::of_leaves` gives the cells that are the sums of the leaves, or
-//! the first step that does not fit; `gains_are_not_negative` and `costs_are_not_negative`; `set_at`
-//! and `set_entry` give a set's row and its entries, and `dense` the matrix of the numbers of cells;
-//! `rows` and `program_size` count what a form's problems have.
+//! the first step that does not fit; `gains_are_not_negative` and `costs_are_not_negative`;
+//! `set_at` and `set_entry` give a set's row and its entries, and `dense` the matrix of the numbers
+//! of cells; `rows` and `program_size` count what a form's problems have.
 //! Definitions: `specs::Data` says what each form keeps and which sequence form it stands for,
 //! `Cells` what the cells are, `Steps` whether the steps of leaves fit, `Matrices` numbers of cells
 //! as a matrix, `Sizes` the sizes of a form and of its problems, `PlanPairs` two plans;

@@ -5,8 +5,8 @@ ghost use Rattle.sequence_data.specs.Sizes.{AreFew, problem_rows, program_size, 
 
 use crate::form::Side;
 
-/// The sizes of a sequence form: of both players the numbers of sequences, the empty one included, and of own
-/// sets.
+/// The sizes of a sequence form: of both players the numbers of sequences, the empty one included,
+/// and of own sets.
 #[derive(Clone, Copy, Debug, PartialEq, Eq)]
 pub struct Counts {
     /// The sequences of player one.

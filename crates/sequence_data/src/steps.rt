@@ -2,9 +2,9 @@
 ghost use Rattle.std.specs.Prelude.{◌≡◌, [], ◌∷◌, IfOk};
 ghost use Rattle.answers.specs.Answers.{map_ok};
 ghost use Rattle.rational.specs.Rational.{◌+ℚ◌, ◌*ℚ◌};
-ghost use Rattle.frac128.specs.Steps.{step_of};
+ghost use Rattle.frac128.specs.Steps.{step_of, added_product_steps};
 ghost use Rattle.frac128.specs.declared.steps.Op.TheVariants.{Add, Mul};
-ghost use Rattle.sequence_data.specs.Steps.{added_product_steps, fit_at};
+ghost use Rattle.sequence_data.specs.Steps.{fit_at};
 
 use crate::stop::SeqStop;
 use frac128::Frac;

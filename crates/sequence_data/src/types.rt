@@ -1,5 +1,5 @@
-// The parts of a sequence form. Players are numbered from 0 in clauses; one is player 0. Sequences are numbered
-// from 0, which is the empty one.
+// The parts of a sequence form. Players are numbered from 0 in clauses; one is player 0. Sequences
+// are numbered from 0, which is the empty one.
 use frac128::Frac;
 
 /// An information set of a player.

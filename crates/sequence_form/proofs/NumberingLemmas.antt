@@ -1,7 +1,7 @@
 -- The sequences of a player's own sets, by the numbers of the sets.
-use Rattle.std.proofs.Common.{ℕ, zero, suc, ◌+◌, ◌*◌, ◌<◌, ◌≤◌, ◌≡◌, inl, inr, Bool, true, false, Decides, Option, Some, None, List, [], ◌∷◌, ◌++◌, length, map, get_or, slice_get, refl, sym, ap, subst, ◌∙◌, add-one, arith}
+use Rattle.std.proofs.Common.{ℕ, zero, suc, ◌+◌, ◌*◌, ◌<◌, ◌≤◌, ◌≡◌, inl, inr, Bool, true, false, Decides, Option, Some, None, List, [], ◌∷◌, ◌++◌, length, map, get_or, slice_get, refl, sym, ap, subst, ◌∙◌, arith}
 use Rattle.std.specs.Prelude.{if◌then◌else◌}
-use Rattle.std.proofs.lemmas.List.{append-nil, length_push, map-append}
+use Rattle.std.proofs.lemmas.List.{append-nil, length_push}
 use Rattle.std.proofs.lemmas.List.FromFn.{get_or-map-range_with_len, length-map-range_with_len}
 use Rattle.std.proofs.lemmas.Option.{none-some, same_Some, slice_get_within, get_or_from_slice_get}
 use Rattle.game_theory.specs.Trees.{Tree, IsTree as is_game_tree}
@@ -12,7 +12,7 @@ use Rattle.game_core.specs.TreeGame.{game_of_tree}
 use Rattle.game_theory.specs.OwnSets.{own_sets, numbers_with}
 use Rattle.game_theory.proofs.OwnSetLemmas.{is_own-decides}
 use Rattle.strategy_lists.proofs.ActionCountLemmas.{actions-below}
-use Rattle.game_theory.proofs.IndexLemmas.{numbers_with-at, numbers_with-next, numbers_with-last, numbers_with-other}
+use Rattle.game_theory.proofs.IndexLemmas.{numbers_with-at, numbers_with-next}
 use Rattle.sequence_forms.specs.Sequences.{last_edge, history_before, sequence, sequence_before, side_of}
 use Rattle.sequence_forms.specs.Sides.{first, sequences}
 use Rattle.sequence_forms.proofs.SequenceLemmas.{history_before-cases, side_of-is}
@@ -83,19 +83,6 @@ module _ (t : Tree) (i : ℕ) where
   -- ---- with one more set
   pub next-push : (n : ℕ) → n < t.sets → next_sequence t i (n + 1) ≡ next_sequence t i n + sequence_count_of t i n
   next-push n below = let one : n + 1 ≡ suc n = omega arith in ap (next_sequence t i) one ∙ next-more n below
-
-  -- the own sets with one more
-  own-next : (n : ℕ) → is_own t i n ≡ true → numbers_with t.owner i (n + 1) ≡ numbers_with t.owner i n ++ n ∷ []
-  own-next n own = ap (numbers_with t.owner i) (add-one n) ∙ numbers_with-last t.owner i n ((is_own-decides t i n).0 own)
-
-  other-next : (n : ℕ) → is_own t i n ≡ false → numbers_with t.owner i (n + 1) ≡ numbers_with t.owner i n
-  other-next n other = ap (numbers_with t.owner i) (add-one n) ∙ numbers_with-other t.owner i n (λ own. cc ((is_own-decides t i n).1 own, other))
-
-  pub rows-own : (n : ℕ) → is_own t i n ≡ true → map (own_set_row t i) (numbers_with t.owner i (n + 1)) ≡ map (own_set_row t i) (numbers_with t.owner i n) ++ own_set_row t i n ∷ []
-  rows-own n own = ap (map (own_set_row t i)) (own-next n own) ∙ map-append (own_set_row t i) (numbers_with t.owner i n) (n ∷ [])
-
-  pub rows-other : (n : ℕ) → is_own t i n ≡ false → map (own_set_row t i) (numbers_with t.owner i (n + 1)) ≡ map (own_set_row t i) (numbers_with t.owner i n)
-  rows-other n other = ap (map (own_set_row t i)) (other-next n other)
 
 -- ---- they fit 32 bits
 pub actions-few : (t : GameTree) (i s : ℕ) → IsGameTree t → s < length t.sets → sequence_count_of (game_of_tree t) i s < 65536

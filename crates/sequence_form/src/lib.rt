@@ -4,7 +4,8 @@
 //! Callers may rely on: `build` and `build_table` give the form, or the first reason why there is
 //! none; by law it stands for the game, and two plans pay by it what they pay in the game.
 //! Definitions: `specs::Forms` says what a tree and a table answer, `Laws` what a form stands for,
-//! `Sequences` the sides of a tree, `Paths` its leaves and their steps; `sequence_data` has the sizes.
+//! `Sequences` the sides of a tree, `Paths` its leaves and their steps; `sequence_data` has the
+//! sizes.
 //! Lemmas for callers: `proofs::FormLemmas`, `KeptFormLemmas`, `Laws` and `TableLeafLemmas` on
 //! built forms.
 //! A change here touches: `behaviour_profile`, and the stages and laws of `lp` and `lcp`.

@@ -11,7 +11,8 @@ use perfect_recall::Recall;
 use sequence_data::{SetRow, Side};
 use std::alloc::Global;
 
-// How many sequences a set gives a player: one for each action where the player owns it, and else none.
+// How many sequences a set gives a player: one for each action where the player owns it, and else
+// none.
 pub(crate) fn sequence_count_of(tree: &Tree, set: usize, player: u32) -> u32
     requires { set < length tree.now.sets }
     ensures value { result ≡ sequence_count_of (game_of_tree tree.now) player set }
@@ -25,7 +26,8 @@ pub(crate) fn sequence_count_of(tree: &Tree, set: usize, player: u32) -> u32
     }
 }
 
-// For each set, and after the last one, the sequence that comes next after those of the player's sets before it.
+// For each set, and after the last one, the sequence that comes next after those of the player's
+// sets before it.
 pub(crate) fn first_sequences(alloc: Global, tree: &Tree, player: u32) -> Result<Vec<u32>, Memory>
     ensures { IfOk result (λ firsts. AreFirsts (game_of_tree tree.now) player firsts.items) }
 {
@@ -84,12 +86,9 @@ pub(crate) fn side(
     requires firsts { AreFirsts (game_of_tree tree.now) player firsts.now }
     ensures { IfOk result (λ side. side ≡ tree_side (game_of_tree tree.now) player) }
 {
-    let sets = tree.sets().len();
     let mut rows = Vec::new(alloc);
-    for set in 0..sets {
-        if tree.is_own(set, player) {
-            rows.push(own_set_row(tree, recall, firsts, player, set))?;
-        }
+    for set in tree.sets_of(player) {
+        rows.push(own_set_row(tree, recall, firsts, player, *set as usize))?;
     }
-    Ok(Side::new(firsts[sets], rows))
+    Ok(Side::new(firsts[tree.sets().len()], rows))
 }

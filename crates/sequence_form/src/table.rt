@@ -57,13 +57,14 @@ fn profiles(alloc: Global, table: &Table) -> Result<Vec<Leaf>, Memory>
     Ok(leaves)
 }
 
-/// The sequence form of a table of two players: each chooses once, at one set, and the profiles are leaves of
-/// chance 1.
+/// The sequence form of a table of two players: each chooses once, at one set, and the profiles are
+/// leaves of chance 1.
 ///
 /// # Errors
 ///
-/// `NotTwoPlayers` exactly where the table has another number of players. `Range` exactly where it has two and
-/// a step does not fit: the first, profiles in order, each into its cell. `Memory` where memory ran out.
+/// `NotTwoPlayers` exactly where the table has another number of players. `Range` exactly where it
+/// has two and a step does not fit: the first, profiles in order, each into its cell. `Memory`
+/// where memory ran out.
 pub fn build_table(alloc: Global, table: &Table) -> Result<SeqForm, SeqStop>
     ensures { Gives stops.Memory (table_form table.now) result }
 {

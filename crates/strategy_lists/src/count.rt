@@ -83,8 +83,8 @@ fn count_apart(
     Ok(first)
 }
 
-/// How many reduced strategies there are, but at most one more than `most`: counting stops there. `actions` has the
-/// number of actions of each of the player's own sets in order.
+/// How many reduced strategies there are, but at most one more than `most`: counting stops there.
+/// `actions` has the number of actions of each of the player's own sets in order.
 ///
 /// # Errors
 ///

@@ -25,8 +25,8 @@ fn place_at(tree: &Tree, places: &[u32], number: usize) -> u32
     }
 }
 
-// The decision at a node where this player moves, whose last move above the node this is. `numbers` has the
-// numbers of the decisions at the nodes before it.
+// The decision at a node where this player moves, whose last move above the node this is. `numbers`
+// has the numbers of the decisions at the nodes before it.
 fn decision_at(
     tree: &Tree,
     places: &[u32],
@@ -68,8 +68,8 @@ fn no_lists(alloc: Global, players: usize) -> Result<Vec<Vec<Decision>>, Memory>
     Ok(lists)
 }
 
-// The number of a decision in its player's list: that of the decision made last for its set where this is the
-// same one, and else a new one, which then is the set's.
+// The number of a decision in its player's list: that of the decision made last for its set where
+// this is the same one, and else a new one, which then is the set's.
 fn take(
     list: &mut Vec<Decision>,
     latest: &mut Option<u32>,
@@ -93,8 +93,8 @@ fn take(
     Ok(number)
 }
 
-/// The decisions of each player, each after those before it. Nodes of one set with the same own history can share
-/// one. `places` has each set's place among its owner's own sets.
+/// The decisions of each player, each after those before it. Nodes of one set with the same own
+/// history can share one. `places` has each set's place among its owner's own sets.
 pub(crate) fn decisions_of_all(
     alloc: Global,
     tree: &Tree,

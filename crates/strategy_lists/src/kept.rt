@@ -36,7 +36,8 @@ fn mark(kept: &mut Vec<bool>, edge: Option<Edge>)
     }
 }
 
-// Which decisions are kept: all but those of sets of one action with no other decision, after which none is kept.
+// Which decisions are kept: all but those of sets of one action with no other decision, after which
+// none is kept.
 fn kept(
     alloc: Global,
     decisions: &[Decision],

@@ -26,7 +26,8 @@ fn next_place(counts: &mut [u32], owner: Option<u32>) -> u32
     }
 }
 
-// For each owner its place among the owners that are the same player, from 0; any number where there is none.
+// For each owner its place among the owners that are the same player, from 0; any number where
+// there is none.
 fn places_among(alloc: Global, players: usize, owners: &[Option<u32>]) -> Result<Vec<u32>, Memory>
     requires few { length owners.now < 2 ^ 32 }
     requires within { All (IsBelow players) owners.now }

@@ -26,8 +26,8 @@ fn own_action_counts(alloc: Global, tree: &Tree, player: u32) -> Result<Vec<u32>
     Ok(counts)
 }
 
-/// The decisions of the players of a tree, by which their reduced strategies are counted and listed. What a
-/// contract sees of them is the tree.
+/// The decisions of the players of a tree, by which their reduced strategies are counted and
+/// listed. What a contract sees of them is the tree.
 #[derive(Debug, Drop)]
 pub struct Decisions<'a> {
     tree: &'a Tree,
@@ -80,7 +80,8 @@ impl<'a> Decisions<'a> {
         self.lists[player as usize].as_slice()
     }
 
-    /// How many reduced strategies a player has, but at most one more than `most`: counting stops there.
+    /// How many reduced strategies a player has, but at most one more than `most`: counting stops
+    /// there.
     ///
     /// # Errors
     ///
@@ -95,8 +96,8 @@ impl<'a> Decisions<'a> {
         count_reduced(alloc, self.of_player(player), actions.as_slice(), most)
     }
 
-    /// The reduced strategies of a player in order, each as a list of the actions at the player's own sets,
-    /// counted from 1, with 0 for none.
+    /// The reduced strategies of a player in order, each as a list of the actions at the player's
+    /// own sets, counted from 1, with 0 for none.
     ///
     /// # Errors
     ///

@@ -80,7 +80,8 @@ impl<'a> Walk<'a> {
         Ok(())
     }
 
-    // Goes back to the last set that has a further action, and takes that. Answers the decision to go on with.
+    // Goes back to the last set that has a further action, and takes that. Answers the decision to
+    // go on with.
     fn back(&mut self) -> Option<usize>
         requires { IsAt self.old (length self.old.decisions.now) }
         ensures { MatchOption result (later_ends self.old ≡ []) (λ next. IsAt self.new next
@@ -100,8 +101,9 @@ impl<'a> Walk<'a> {
     }
 }
 
-// How many reduced strategies there are, but at most one more than `most`: counting stops there. The walk ends once for
-// each of them. `actions` has the number of actions of each of the player's own sets in order.
+// How many reduced strategies there are, but at most one more than `most`: counting stops there.
+// The walk ends once for each of them. `actions` has the number of actions of each of the player's
+// own sets in order.
 pub(crate) fn count_ends(
     alloc: Global,
     decisions: &[Decision],
@@ -130,8 +132,8 @@ pub(crate) fn count_ends(
     Ok(count)
 }
 
-/// All reduced strategies in order, as choice lists. `actions` has the number of actions of each of the player's own
-/// sets in order.
+/// All reduced strategies in order, as choice lists. `actions` has the number of actions of each of
+/// the player's own sets in order.
 ///
 /// # Errors
 ///

@@ -21,8 +21,8 @@ ghost use Rattle.tree_grammar.specs.declared.kinds.EfgKind.{EfgKind};
 ghost use Rattle.tree_faults.specs.TreeFaults.{IsFile, BeginsFile};
 ghost use Rattle.tree_faults.specs.FaultKinds.{IsKind, IsFault};
 
-/// The tokens of a source have one fault at most; they have none where they are a file of a tree, and one where they are
-/// none. (There are fewer than 2^32 of them.)
+/// The tokens of a source have one fault at most; they have none where they are a file of a tree,
+/// and one where they are none. (There are fewer than 2^32 of them.)
 pub fn faults_are_single()
     ensures one { (tokens : TokenList) (kind other : EfgKind) (at offset : ℕ)
         → IsFault tokens kind at

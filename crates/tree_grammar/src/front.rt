@@ -17,7 +17,8 @@ pub struct Front {
     pub players: Vec<Name>,
 }
 
-/// The title and the players at the front of a file, and the tokens after them and the comment that may come.
+/// The title and the players at the front of a file, and the tokens after them and the comment that
+/// may come.
 ///
 /// # Errors
 ///

@@ -15,7 +15,8 @@ pub enum EfgKind {
     UnknownPlayer,
     /// A first use of a set without actions, or later actions that differ from the first.
     SetMismatch,
-    /// A probability that is negative or takes the sum above 1, or the end of a list whose sum is not 1.
+    /// A probability that is negative or takes the sum above 1, or the end of a list whose sum is
+    /// not 1.
     Probability {
         /// The number that the file gives the set.
         set: u64,
@@ -29,8 +30,8 @@ pub enum EfgKind {
         /// The step that does not fit.
         unfit: Unfit,
     },
-    /// A first use of an outcome without payoffs, payoffs for more or fewer players, or later payoffs that differ
-    /// from the first.
+    /// A first use of an outcome without payoffs, payoffs for more or fewer players, or later
+    /// payoffs that differ from the first.
     OutcomeMismatch,
     /// The tokens end inside the nodes.
     Unfinished,

@@ -5,10 +5,10 @@
 //! `player`, `read_set` and `read_outcome` take off the tokens what the reading function of their
 //! part does, or give a `PartStop` with the fault's kind and the tokens left; `Sets` and `Outcomes`
 //! are seen as lists, in the order of first use.
-//! Definitions: `specs::TreeFile` has the grammar, `TreePieces` the words of nodes and the brace after
-//! actions, `TreeParsing` the reading functions, and `UseCodes` how sets and outcomes that are seen
-//! so far are stored, `Texts` how a fault's kind is displayed. What a fault of each kind is stands
-//! in `tree_faults`.
+//! Definitions: `specs::TreeFile` has the grammar, `TreePieces` the words of nodes and the brace
+//! after actions, `TreeParsing` the reading functions, and `UseCodes` how sets and outcomes that
+//! are seen so far are stored, `Texts` how a fault's kind is displayed. What a fault of each kind
+//! is stands in `tree_faults`.
 //! Private words: `specs::Uses`, how sets and outcomes are kept.
 //! Lemmas for callers: `proofs::NodesReadLaws`, that what is read as nodes are nodes; `FileLaws`
 //! and `WholeFileLaws`, that what is read is a file, and that a file is read.

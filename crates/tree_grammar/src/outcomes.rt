@@ -34,9 +34,9 @@ struct KeptOutcome {
     payoffs: Vec<Frac>,
 }
 
-/// The outcomes that were read so far, in the order of their first use. Callers see them as a list of outcomes, each
-/// with the number that the file gives it, its first name and the payoffs of its first use. The number of an outcome
-/// among them counts from 0.
+/// The outcomes that were read so far, in the order of their first use. Callers see them as a list
+/// of outcomes, each with the number that the file gives it, its first name and the payoffs of its
+/// first use. The number of an outcome among them counts from 0.
 #[derive(Drop)]
 pub struct Outcomes {
     // The numbers that the file gives them: always the labels of the outcomes.
@@ -73,7 +73,7 @@ impl Outcomes {
         }
     }
 
-    /// The outcomes of the whole tree; one without a name gets the empty one. The error is want of memory.
+    /// The outcomes of the whole tree; one without a name gets the empty one.
     ///
     /// # Errors
     ///
@@ -91,7 +91,8 @@ impl Outcomes {
     }
 }
 
-// The kind of the fault at a token: whether the payoffs are too few or too many there, or the token fits no list.
+// The kind of the fault at a token: whether the payoffs are too few or too many there, or the token
+// fits no list.
 fn mismatch_or_node(differs: bool) -> EfgKind
     ensures { result ≡ (if differs then OutcomeMismatch else Node) }
 {
@@ -270,9 +271,9 @@ fn read_named<'a>(
     }
 }
 
-/// The outcome that comes at a node, in a game of so many players: the outcomes with that use, the outcome's number
-/// among them from 0, or nothing where the node has none, and the tokens after it. The outcome is new where none has
-/// the number that comes.
+/// The outcome that comes at a node, in a game of so many players: the outcomes with that use, the
+/// outcome's number among them from 0, or nothing where the node has none, and the tokens after it.
+/// The outcome is new where none has the number that comes.
 ///
 /// # Errors
 ///

@@ -26,11 +26,13 @@ pub(crate) fn positive(tokens: &[Spanned]) -> Option<(u64, &[Spanned])>
     }
 }
 
-/// A player, counted from 0, by the number that comes, which is 1 to the number of players, and the tokens after it.
+/// A player, counted from 0, by the number that comes, which is 1 to the number of players, and the
+/// tokens after it.
 ///
 /// # Errors
 ///
-/// The fault's kind, which tells no whole number from one of no player, and how many tokens are left there.
+/// The fault's kind, which tells no whole number from one of no player, and how many tokens are
+/// left there.
 #[tactic(auto, unfolding(crate::specs::TreeParsing::parse_player))]
 pub fn player(tokens: &[Spanned], players: u32) -> Result<(u32, &[Spanned]), PartStop<EfgKind>>
     ensures { Parses (λ x. (x.0, bare x.1.now)) result (parse_player players (bare tokens.now)) }

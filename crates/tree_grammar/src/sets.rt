@@ -43,9 +43,10 @@ struct KeptSet {
     members: Vec<u32>,
 }
 
-/// The information sets that were read so far, in the order of their first use. Callers see them as a list of sets,
-/// each with its owner, the number that the file gives it, its first name, the actions of its first use and the nodes
-/// that use it. The number of a set among them counts from 0.
+/// The information sets that were read so far, in the order of their first use. Callers see them as
+/// a list of sets, each with its owner, the number that the file gives it, its first name, the
+/// actions of its first use and the nodes that use it. The number of a set among them counts from
+/// 0.
 #[derive(Drop)]
 pub struct Sets {
     // What tells them apart: always the keys of the sets.
@@ -82,8 +83,8 @@ impl Sets {
         }
     }
 
-    /// How many actions the set with this number among them, from 0, has. It is 0 at an end, which has no set, and where
-    /// there is no such set.
+    /// How many actions the set with this number among them, from 0, has. It is 0 at an end, which
+    /// has no set, and where there is no such set.
     pub fn count(&self, set: Option<u32>) -> usize
         ensures { result ≡ partial_count self.now set }
     {
@@ -96,7 +97,7 @@ impl Sets {
         }
     }
 
-    /// The sets of the whole tree; one without a name gets the empty one. The error is want of memory.
+    /// The sets of the whole tree; one without a name gets the empty one.
     ///
     /// # Errors
     ///
@@ -209,9 +210,9 @@ fn placed(known: &mut IndexSet<SetKey>, key: SetKey) -> Result<(usize, bool), Al
     known.insert_full(key)
 }
 
-/// The set that comes at the node with this number from 0, of this owner, a player from 0 or nothing for chance: the
-/// sets with that use, the set's number among them from 0, and the tokens after it. The set is new where none of that
-/// owner has the number that comes.
+/// The set that comes at the node with this number from 0, of this owner, a player from 0 or
+/// nothing for chance: the sets with that use, the set's number among them from 0, and the tokens
+/// after it. The set is new where none of that owner has the number that comes.
 ///
 /// # Errors
 ///

@@ -34,10 +34,10 @@ use Rattle.subgames.proofs.SomeCutLemmas.{some-cut}
 use Rattle.verdicts.specs.TreeSteps.{now_steps_at}
 use Rattle.two_player_tools.specs.Lp.{solution_in}
 use Rattle.two_player_tools.specs.Perfect.{IsSolvedAt, cut_entries_in, entries_by, entry_payoffs_fit, in_subgame, perfect_in, perfect_text, plans_by, worth_refusal}
-use Rattle.two_player_tools.specs.TwoPlayers.{form_of_tree, rows_by, two_players}
+use Rattle.two_player_tools.specs.TwoPlayers.{tree_form_within, rows_by, two_players}
 use Rattle.two_player_tools.specs.declared.forms.Method.{Method}
 use Rattle.two_player_tools.specs.declared.forms.Method.TheVariants.{LinearProgram, Complementarity}
-use Rattle.two_player_tools.proofs.AnsweredFormLemmas.{form_of_tree-answered, recall_told-answered, two_players-answered}
+use Rattle.two_player_tools.proofs.AnsweredFormLemmas.{tree_form_within-answered, recall_told-answered, two_players-answered}
 use Rattle.two_player_tools.proofs.AnsweredSolutionLemmas.{equilibrium_in-answered, solution_in-answered}
 use Rattle.two_player_tools.proofs.CutAnswerLemmas.{entries_by-equilibrium}
 use Rattle.two_player_tools.proofs.KeptPropertyLemmas.{TreesAreGames, form_in-valid}
@@ -54,8 +54,8 @@ plans_by-answered Complementarity f w = equilibrium_in-answered f w
 entries_by-answered : (method : Method) (t : GameTree) → TreesAreGames → IsGameTree t → IsAnswered (entries_by method t)
 entries_by-answered method t laws w =
     let told = λ (plans : PlanPair). refused_by behaviour_refusal (plan_behaviour t plans.one plans.two) in
-    bind-answered (form_of_tree (rows_by method) t) (λ form. plans_by method form >>= told)
-    (form_of_tree-answered (rows_by method) t w)
+    bind-answered (tree_form_within (rows_by method) t) (λ form. plans_by method form >>= told)
+    (tree_form_within-answered (rows_by method) t w)
     (λ form k. bind-answered (plans_by method form) told (plans_by-answered method form (form_in-valid (rows_by method) false (Extensive t) form laws w k))
     (λ plans _. refused_by-answered behaviour_refusal (plan_behaviour t plans.one plans.two) (plan_behaviour-answered t plans.one plans.two)))
 

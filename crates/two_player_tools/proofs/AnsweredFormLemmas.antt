@@ -24,9 +24,9 @@ use Rattle.sequence_form.specs.Forms.{table_form, tree_form}
 use Rattle.sequence_form.proofs.AnsweredFormLemmas.{table_form-answered, tree_form-answered}
 use Rattle.two_player_tools.specs.Entries.{entries_in}
 use Rattle.two_player_tools.specs.GameTypes.{IsGame}
-use Rattle.two_player_tools.specs.StrategicForms.{strategic_form}
-use Rattle.two_player_tools.specs.TwoPlayers.{form_in, form_of_table, form_of_tree, players_of, table_counts, tree_counts, two_players}
-use Rattle.two_player_tools.proofs.StrategicFormLemmas.{strategic_form-table}
+use Rattle.two_player_tools.specs.StrategicForms.{strategic_table}
+use Rattle.two_player_tools.specs.TwoPlayers.{form_in, table_form_within, tree_form_within, players_of, table_counts, tree_counts, two_players}
+use Rattle.two_player_tools.proofs.StrategicFormLemmas.{strategic_table-is_table}
 
 -- ---- the number of players
 -- a game has two players, or is refused
@@ -43,21 +43,21 @@ within_rows-answered : (rows : ℕ) → IsAnswered (refused_by refusal.TooLarge 
 within_rows-answered rows = refused_by-answered refusal.TooLarge (within what.Rows most_rows rows) (refuse_where-answered (most_rows < rows) (too_large what.Rows most_rows rows))
 
 -- a game has a strategic form, or a reason why it has none
-pub strategic_form-answered : (game : Game) → IsGame game → IsAnswered (strategic_form game)
-strategic_form-answered (Strategic table) w = only-answered table
-strategic_form-answered (Extensive tree) w =
+pub strategic_table-answered : (game : Game) → IsGame game → IsAnswered (strategic_table game)
+strategic_table-answered (Strategic table) w = only-answered table
+strategic_table-answered (Extensive tree) w =
     bind-answered (refused_by form_refusal (reduced_form_of tree)) (λ form. only form.table) (refused_by-answered form_refusal (reduced_form_of tree) (form_of-answered tree (game_tree tree w)))
     (λ form _. only-answered form.table)
 
 -- a table has a sequence form, or a reason why it has none
-form_of_table-answered : (rows : Counts → ℕ) (t : GameTable) → IsTable t → IsAnswered (form_of_table rows t)
-form_of_table-answered rows t w =
+table_form_within-answered : (rows : Counts → ℕ) (t : GameTable) → IsTable t → IsAnswered (table_form_within rows t)
+table_form_within-answered rows t w =
     bind-answered (refused_by refusal.TooLarge (within what.Rows most_rows (rows (table_counts t)))) (λ _. refused_by sequence_refusal (table_form t)) (within_rows-answered (rows (table_counts t)))
     (λ _ _. refused_by-answered sequence_refusal (table_form t) (table_form-answered t w))
 
 -- and so has a tree
-pub form_of_tree-answered : (rows : Counts → ℕ) (t : GameTree) → IsGameTree t → IsAnswered (form_of_tree rows t)
-form_of_tree-answered rows t w =
+pub tree_form_within-answered : (rows : Counts → ℕ) (t : GameTree) → IsGameTree t → IsAnswered (tree_form_within rows t)
+tree_form_within-answered rows t w =
     let within_rows = refused_by refusal.TooLarge (within what.Rows most_rows (rows (tree_counts t))) in
     let form = refused_by sequence_refusal (tree_form t) in
     bind-answered (refused_by recall_refusal (recall_of t)) (λ _. within_rows >> form) (recall_told-answered t w)
@@ -65,16 +65,16 @@ form_of_tree-answered rows t w =
     (λ _ _. refused_by-answered sequence_refusal (tree_form t) (tree_form-answered t w)))
 
 -- a strategic form has a sequence form, or a reason why it has none
-of_strategic-answered : (rows : Counts → ℕ) (game : Game) → IsGame game → IsAnswered (strategic_form game >>= form_of_table rows)
+of_strategic-answered : (rows : Counts → ℕ) (game : Game) → IsGame game → IsAnswered (strategic_table game >>= table_form_within rows)
 of_strategic-answered rows game w =
-    bind-answered (strategic_form game) (form_of_table rows) (strategic_form-answered game w) (λ table h. form_of_table-answered rows table (strategic_form-table game table w h))
+    bind-answered (strategic_table game) (table_form_within rows) (strategic_table-answered game w) (λ table h. table_form_within-answered rows table (strategic_table-is_table game table w h))
 
 -- so each game has one, or a reason why it has none
 pub form_in-answered : (rows : Counts → ℕ) (strategic : Bool) (game : Game) → IsGame game → IsAnswered (form_in rows strategic game)
 form_in-answered rows true (Strategic t) w = of_strategic-answered rows (Strategic t) w
 form_in-answered rows false (Strategic t) w = of_strategic-answered rows (Strategic t) w
 form_in-answered rows true (Extensive t) w = of_strategic-answered rows (Extensive t) w
-form_in-answered rows false (Extensive t) w = form_of_tree-answered rows t w
+form_in-answered rows false (Extensive t) w = tree_form_within-answered rows t w
 
 -- ---- the entries
 -- two plans have entries, or a first quotient that does not fit

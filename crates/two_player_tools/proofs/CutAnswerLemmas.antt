@@ -24,7 +24,7 @@ use Rattle.lemke_pivot.specs.Parts.{plans_at}
 use Rattle.two_player_tools.specs.EquilibriumEntries.{AreOfEquilibrium}
 use Rattle.two_player_tools.specs.Lp.{Solution, solution, solution_in}
 use Rattle.two_player_tools.specs.Perfect.{cut_entries_in, entries_by, in_subgame, entry_payoffs_fit, plans_by, worth_refusal}
-use Rattle.two_player_tools.specs.TwoPlayers.{form_of_tree, rows_by}
+use Rattle.two_player_tools.specs.TwoPlayers.{tree_form_within, rows_by}
 use Rattle.two_player_tools.specs.declared.forms.Method.{Method}
 use Rattle.two_player_tools.specs.declared.forms.Method.TheVariants.{LinearProgram, Complementarity}
 use Rattle.two_player_tools.proofs.FormSingleLemmas.{RecallsAreSingle, form_in-single}
@@ -45,7 +45,7 @@ plans_by-single Complementarity f w = equilibrium_in-single f w
 entries_by-single : (method : Method) (t : GameTree) → TreesAreGames → RecallsAreSingle → IsGameTree t → IsSingle (entries_by method t)
 entries_by-single method t laws recalls w =
     let told = λ (plans : PlanPair). refused_by behaviour_refusal (plan_behaviour t plans.one plans.two) in
-    bind-single (form_of_tree (rows_by method) t) (λ form. plans_by method form >>= told)
+    bind-single (tree_form_within (rows_by method) t) (λ form. plans_by method form >>= told)
     (form_in-single (rows_by method) false (Extensive t) recalls w)
     (λ form k. bind-single (plans_by method form) told (plans_by-single method form (form_in-valid (rows_by method) false (Extensive t) form laws w k))
     (λ plans _. refused_by-single behaviour_refusal (plan_behaviour t plans.one plans.two) (plan_behaviour-single t plans.one plans.two)))

@@ -19,9 +19,9 @@ use Rattle.sequence_form.proofs.FormLemmas.{table_form-single, tree_form-single}
 use Rattle.two_player_tools.specs.Entries.{entries_in, plans_line}
 use Rattle.two_player_tools.specs.GameTypes.{IsGame}
 use Rattle.refusals.specs.Told.{behaviour_refusal, recall_refusal, sequence_refusal}
-use Rattle.two_player_tools.specs.StrategicForms.{strategic_form}
-use Rattle.two_player_tools.proofs.StrategicFormLemmas.{strategic_form-single}
-use Rattle.two_player_tools.specs.TwoPlayers.{form_in, form_of_table, form_of_tree, players_of, table_counts, tree_counts, two_players}
+use Rattle.two_player_tools.specs.StrategicForms.{strategic_table}
+use Rattle.two_player_tools.proofs.StrategicFormLemmas.{strategic_table-single}
+use Rattle.two_player_tools.specs.TwoPlayers.{form_in, table_form_within, tree_form_within, players_of, table_counts, tree_counts, two_players}
 use Rattle.refusals.specs.declared.refusal.Refusal.TheVariants as refusal
 
 -- a tree has one recall
@@ -36,26 +36,26 @@ two_players-single game = refuse_where-single (players_of game ≢ 2) (refusal.N
 within_rows-single : (rows : ℕ) → IsSingle (refused_by refusal.TooLarge (within what.Rows most_rows rows))
 within_rows-single rows = refused_by-single refusal.TooLarge _ (refuse_where-single (most_rows < rows) (too_large what.Rows most_rows rows))
 
-form_of_table-single : (rows : Counts → ℕ) (t : GameTable) → IsSingle (form_of_table rows t)
-form_of_table-single rows t =
+table_form_within-single : (rows : Counts → ℕ) (t : GameTable) → IsSingle (table_form_within rows t)
+table_form_within-single rows t =
     bind-single (refused_by refusal.TooLarge (within what.Rows most_rows (rows (table_counts t)))) (λ _. refused_by sequence_refusal (table_form t)) (within_rows-single (rows (table_counts t)))
     (λ _ _. refused_by-single sequence_refusal (table_form t) (table_form-single t))
 
-form_of_tree-single : (rows : Counts → ℕ) (t : GameTree) → IsSingle (recall_of t) → IsSingle (form_of_tree rows t)
-form_of_tree-single rows t single =
+tree_form_within-single : (rows : Counts → ℕ) (t : GameTree) → IsSingle (recall_of t) → IsSingle (tree_form_within rows t)
+tree_form_within-single rows t single =
     bind-single (refused_by recall_refusal (recall_of t)) (λ _. refused_by refusal.TooLarge (within what.Rows most_rows (rows (tree_counts t))) >> refused_by sequence_refusal (tree_form t))
     (refused_by-single recall_refusal (recall_of t) single)
     (λ _ _. bind-single (refused_by refusal.TooLarge (within what.Rows most_rows (rows (tree_counts t)))) (λ _. refused_by sequence_refusal (tree_form t)) (within_rows-single (rows (tree_counts t)))
     (λ _ _. refused_by-single sequence_refusal (tree_form t) (tree_form-single t)))
 
-strategic-single : (rows : Counts → ℕ) (game : Game) → IsSingle (strategic_form game >>= form_of_table rows)
-strategic-single rows game = bind-single (strategic_form game) (form_of_table rows) (strategic_form-single game) (λ table _. form_of_table-single rows table)
+strategic-single : (rows : Counts → ℕ) (game : Game) → IsSingle (strategic_table game >>= table_form_within rows)
+strategic-single rows game = bind-single (strategic_table game) (table_form_within rows) (strategic_table-single game) (λ table _. table_form_within-single rows table)
 
 pub form_in-single : (rows : Counts → ℕ) (strategic : Bool) (game : Game) → RecallsAreSingle → IsGame game → IsSingle (form_in rows strategic game)
 form_in-single rows true (Strategic t) recalls w = strategic-single rows (Strategic t)
 form_in-single rows false (Strategic t) recalls w = strategic-single rows (Strategic t)
 form_in-single rows true (Extensive t) recalls w = strategic-single rows (Extensive t)
-form_in-single rows false (Extensive t) recalls w = form_of_tree-single rows t (recalls t w)
+form_in-single rows false (Extensive t) recalls w = tree_form_within-single rows t (recalls t w)
 
 -- ---- the line
 pub entries_in-single : (strategic : Bool) (game : Game) (one two : List ℚ) → IsSingle (entries_in strategic game one two)

@@ -24,7 +24,7 @@ use Rattle.sequence_data.specs.PlanPairs.{PlanPair}
 use Rattle.zero_sum_lp.specs.PlanStops.{plans_of}
 use Rattle.two_player_tools.specs.GameTypes.{IsGame}
 use Rattle.two_player_tools.specs.TwoPlayers.{form_in}
-use Rattle.two_player_tools.proofs.StrategicFormLemmas.{strategic_form-table}
+use Rattle.two_player_tools.proofs.StrategicFormLemmas.{strategic_table-is_table}
 
 -- what trees stand for
 pub record TreesAreGames : Type 0 where
@@ -34,9 +34,9 @@ pub record TreesAreGames : Type 0 where
 -- ---- forms
 -- the form of a game
 pub form_in-valid : (rows : Counts → ℕ) (strategic : Bool) (game : Game) (f : FormData) → TreesAreGames → IsGame game → form_in rows strategic game (Ok f) → IsFormData f
-form_in-valid rows true (Strategic t) f laws w h = table_form-valid h.0 f (strategic_form-table (Strategic t) h.0 w h.1) h.2.2
-form_in-valid rows false (Strategic t) f laws w h = table_form-valid h.0 f (strategic_form-table (Strategic t) h.0 w h.1) h.2.2
-form_in-valid rows true (Extensive t) f laws w h = table_form-valid h.0 f (strategic_form-table (Extensive t) h.0 w h.1) h.2.2
+form_in-valid rows true (Strategic t) f laws w h = table_form-valid h.0 f (strategic_table-is_table (Strategic t) h.0 w h.1) h.2.2
+form_in-valid rows false (Strategic t) f laws w h = table_form-valid h.0 f (strategic_table-is_table (Strategic t) h.0 w h.1) h.2.2
+form_in-valid rows true (Extensive t) f laws w h = table_form-valid h.0 f (strategic_table-is_table (Extensive t) h.0 w h.1) h.2.2
 form_in-valid rows false (Extensive t) f laws w h = tree_form-valid t f (laws.game_tree t w) (laws.numbered t w) h.1.all_recall h.2.2
 
 -- a tree with a form has two players, who recall

@@ -35,7 +35,7 @@ use Rattle.two_player_tools.specs.Lp.{Solution, lp, prices_in, prices_text, solu
 use Rattle.two_player_tools.specs.LpLaws.{HoldsOn, IsSolved, ProvesValue}
 use Rattle.two_player_tools.specs.TwoPlayers.{form_in}
 use Rattle.two_player_tools.proofs.ConstantSumLemmas.{constant_of, sums_to, table_sums, tree_sums}
-use Rattle.two_player_tools.proofs.StrategicFormLemmas.{strategic_form-table}
+use Rattle.two_player_tools.proofs.StrategicFormLemmas.{strategic_table-is_table}
 use Rattle.two_player_tools.proofs.PlanEntryLemmas.{HaveAllWeights, own_entries}
 use Rattle.two_player_tools.proofs.KeptPropertyLemmas.{IsSolving, TreesAreGames, first-same, form_in-valid, second-same, two_who_recall}
 
@@ -91,9 +91,9 @@ module _ (f : FormData) (p o : Program) (plans : PlanPair) (h : IsSolving f p o 
       own_entries program_size f plans h.valid weighted (λ t valid is. (on_table t valid is).equilibrium) (λ t before valid recall is. (on_tree t before laws valid recall is).equilibrium) strategic game list w k e
 
   holds : (strategic : Bool) (game : Game) → TreesAreGames → IsGame game → form_in program_size strategic game (Ok f) → HoldsOn strategic game (solution f o plans)
-  holds true (Strategic t) laws w k = (k.0, k.1, on_table k.0 (strategic_form-table (Strategic t) k.0 w k.1) k.2.2)
-  holds false (Strategic t) laws w k = (k.0, k.1, on_table k.0 (strategic_form-table (Strategic t) k.0 w k.1) k.2.2)
-  holds true (Extensive t) laws w k = (k.0, k.1, on_table k.0 (strategic_form-table (Extensive t) k.0 w k.1) k.2.2)
+  holds true (Strategic t) laws w k = (k.0, k.1, on_table k.0 (strategic_table-is_table (Strategic t) k.0 w k.1) k.2.2)
+  holds false (Strategic t) laws w k = (k.0, k.1, on_table k.0 (strategic_table-is_table (Strategic t) k.0 w k.1) k.2.2)
+  holds true (Extensive t) laws w k = (k.0, k.1, on_table k.0 (strategic_table-is_table (Extensive t) k.0 w k.1) k.2.2)
   holds false (Extensive t) laws w k = on_tree t k.0 laws w k.1 k.2.2
 
 -- ---- texts

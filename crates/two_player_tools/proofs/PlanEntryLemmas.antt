@@ -31,7 +31,7 @@ use Rattle.two_player_tools.specs.Entries.{entries_in}
 use Rattle.two_player_tools.specs.EquilibriumEntries.{AreOfEquilibrium}
 use Rattle.two_player_tools.specs.GameTypes.{IsGame}
 use Rattle.two_player_tools.specs.TwoPlayers.{form_in}
-use Rattle.two_player_tools.proofs.StrategicFormLemmas.{strategic_form-table}
+use Rattle.two_player_tools.proofs.StrategicFormLemmas.{strategic_table-is_table}
 
 -- both players' weights
 abbrev pub weights_of : PlanPair → ℕ → ℕ → ℚ
@@ -81,7 +81,7 @@ module _ (rows : Counts → ℕ) (f : FormData) (plans : PlanPair) (is : IsFormD
     table_case t list w h e = (mixed_of_plans (weights_of plans), on_table t w h, ok_same list (drop 1 plans.one ++ drop 1 plans.two) e ∙ table_entries t f plans w is h all)
 
     pub own_entries : (strategic : Bool) (game : Game) (list : List ℚ) → IsGame game → form_in rows strategic game (Ok f) → entries_in strategic game plans.one plans.two (Ok list) → AreOfEquilibrium strategic game list
-    own_entries true (Strategic t) list w k e = (let c = table_case k.0 list (strategic_form-table (Strategic t) k.0 w k.1) k.2.2 e in (k.0, k.1, c.0, c.1, c.2))
-    own_entries false (Strategic t) list w k e = (let c = table_case k.0 list (strategic_form-table (Strategic t) k.0 w k.1) k.2.2 e in (k.0, k.1, c.0, c.1, c.2))
-    own_entries true (Extensive t) list w k e = (let c = table_case k.0 list (strategic_form-table (Extensive t) k.0 w k.1) k.2.2 e in (k.0, k.1, c.0, c.1, c.2))
+    own_entries true (Strategic t) list w k e = (let c = table_case k.0 list (strategic_table-is_table (Strategic t) k.0 w k.1) k.2.2 e in (k.0, k.1, c.0, c.1, c.2))
+    own_entries false (Strategic t) list w k e = (let c = table_case k.0 list (strategic_table-is_table (Strategic t) k.0 w k.1) k.2.2 e in (k.0, k.1, c.0, c.1, c.2))
+    own_entries true (Extensive t) list w k e = (let c = table_case k.0 list (strategic_table-is_table (Extensive t) k.0 w k.1) k.2.2 e in (k.0, k.1, c.0, c.1, c.2))
     own_entries false (Extensive t) list w k e = (behaviour_of (game_of_tree t) (weights_of plans), on_tree t k.0 w k.1 k.2.2, tree_entries_are t plans list e)

@@ -11,7 +11,7 @@ use Rattle.game_core.specs.Table.{GameTable, game_of, strategy_counts}
 use Rattle.game_core.specs.TreeGame.{game_of_tree}
 use Rattle.game_core.specs.declared.game.Game.{Game}
 use Rattle.game_core.specs.declared.game.Game.TheVariants.{Extensive}
-use Rattle.two_player_tools.specs.StrategicForms.{strategic_form}
+use Rattle.two_player_tools.specs.StrategicForms.{strategic_table}
 
 -- on a tree, unless strategies are asked for, the entries of behaviour that is an equilibrium; else
 -- those of a mixed profile of the strategic form that is one
@@ -19,6 +19,6 @@ abbrev pub AreOfEquilibrium : Bool → Game → List ℚ → Type 0
 AreOfEquilibrium false (Extensive t) list =
     (b : Behaviour) × IsEquilibrium (game_of_tree t) b × (list ≡ tree_entries (game_of_tree t) b)
 AreOfEquilibrium _ game list =
-    (table : GameTable) × strategic_form game (Ok table)
+    (table : GameTable) × strategic_table game (Ok table)
     × (m : Mixed) × is_table_equilibrium (game_of table) m
     × (list ≡ entries (strategy_counts table) m)

@@ -3,7 +3,6 @@
 -- Source: Lemke 1965; Koller, Megiddo and von Stengel 1996.
 use Rattle.std.specs.Prelude.{ℕ, Bool, List}
 use Rattle.answers.specs.Answers.{Answer, only, ◌>>=◌, ◌>>◌, refused_by}
-use Rattle.game_theory.specs.Lines.{line_text}
 use Rattle.game_core.specs.declared.game.Game.{Game}
 use Rattle.sequence_data.specs.Data.{FormData}
 use Rattle.sequence_data.specs.Sizes.{problem_rows}
@@ -11,7 +10,7 @@ use Rattle.sequence_data.specs.PlanPairs.{PlanPair}
 use Rattle.lemke_pivot.specs.Ends.{solved_in}
 use Rattle.lemke_pivot.specs.FormProblems.{problem_in}
 use Rattle.lemke_pivot.specs.Parts.{plans_at}
-use Rattle.two_player_tools.specs.Entries.{entries_in}
+use Rattle.two_player_tools.specs.Entries.{plans_line}
 use Rattle.refusals.specs.Told.{pivot_refusal, problem_refusal}
 use Rattle.two_player_tools.specs.TwoPlayers.{two_players, form_in}
 use Rattle.refusals.specs.declared.refusal.Refusal.{Refusal}
@@ -29,5 +28,4 @@ lcp strategic game = do
   two_players game
   form ← form_in problem_rows strategic game
   plans ← equilibrium_in form
-  entries ← entries_in strategic game plans.one plans.two
-  only (line_text entries)
+  plans_line strategic game plans.one plans.two

@@ -18,7 +18,7 @@ use Rattle.two_player_tools.specs.GameTypes.{IsGame}
 use Rattle.two_player_tools.specs.Lp.{Solution, prices_text}
 use Rattle.two_player_tools.specs.Perfect.{lp_tool}
 use Rattle.two_player_tools.specs.PerfectTexts.{IsPerfectText}
-use Rattle.two_player_tools.specs.StrategicForms.{strategic_form}
+use Rattle.two_player_tools.specs.StrategicForms.{strategic_table}
 use Rattle.two_player_tools.specs.TwoPlayers.{form_in}
 
 -- plans and value of a solution hold on the file's own game: on a tree, unless strategies are asked
@@ -27,7 +27,7 @@ abbrev pub HoldsOn : Bool → Game → Solution → Type 0
 HoldsOn false (Extensive t) s =
     AreOptimalOnTree (game_of_tree t) (entry_at s.one) (entry_at s.two) s.value
 HoldsOn _ game s =
-    (table : GameTable) × strategic_form game (Ok table)
+    (table : GameTable) × strategic_table game (Ok table)
     × AreOptimalOnTable (game_of table) (entry_at s.one) (entry_at s.two) s.value
 
 -- prices and plans prove the value by the form

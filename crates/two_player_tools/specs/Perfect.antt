@@ -28,7 +28,7 @@ use Rattle.refusals.specs.declared.refusal.Refusal.TheVariants as refusal
 use Rattle.refusals.specs.declared.site.Site.TheVariants as site
 use Rattle.two_player_tools.specs.Lcp.{equilibrium_in, lcp}
 use Rattle.two_player_tools.specs.Lp.{lp, solution_in}
-use Rattle.two_player_tools.specs.TwoPlayers.{form_of_tree, rows_by, two_players}
+use Rattle.two_player_tools.specs.TwoPlayers.{tree_form_within, rows_by, two_players}
 use Rattle.two_player_tools.specs.declared.forms.Method.{Method}
 use Rattle.two_player_tools.specs.declared.forms.Method.TheVariants.{LinearProgram, Complementarity}
 
@@ -43,7 +43,7 @@ plans_by Complementarity form = equilibrium_in form
 -- the entries of the behaviour that a method finds for a tree
 abbrev pub entries_by : Method → GameTree → Answer Refusal (List ℚ)
 entries_by method t = do
-  form ← form_of_tree (rows_by method) t
+  form ← tree_form_within (rows_by method) t
   plans ← plans_by method form
   refused_by behaviour_refusal (plan_behaviour t plans.one plans.two)
 

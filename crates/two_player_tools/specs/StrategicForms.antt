@@ -8,8 +8,8 @@ use Rattle.refusals.specs.Told.{form_refusal}
 use Rattle.refusals.specs.declared.refusal.Refusal.{Refusal}
 
 -- the table of a game's strategic form; or why a tree has no reduced form
-abbrev pub strategic_form : Game → Answer Refusal GameTable
-strategic_form (Strategic table) = only table
-strategic_form (Extensive tree) = do
+abbrev pub strategic_table : Game → Answer Refusal GameTable
+strategic_table (Strategic table) = only table
+strategic_table (Extensive tree) = do
   form ← refused_by form_refusal (reduced_form_of tree)
   only form.table

@@ -19,7 +19,7 @@ use Rattle.sequence_data.specs.declared.sizes.Counts.{Counts}
 use Rattle.refusals.specs.Told.{recall_refusal, sequence_refusal}
 use Rattle.refusals.specs.declared.refusal.Refusal.{Refusal}
 use Rattle.refusals.specs.declared.refusal.Refusal.TheVariants as refusal
-use Rattle.two_player_tools.specs.StrategicForms.{strategic_form}
+use Rattle.two_player_tools.specs.StrategicForms.{strategic_table}
 use Rattle.two_player_tools.specs.declared.forms.Method.{Method}
 use Rattle.two_player_tools.specs.declared.forms.Method.TheVariants.{LinearProgram, Complementarity}
 
@@ -47,14 +47,14 @@ abbrev pub tree_counts : GameTree → Counts
 tree_counts t = counts_of (tree_side (game_of_tree t) 0) (tree_side (game_of_tree t) 1)
 
 -- the sequence form of a table, where its problem, whose rows are counted so, is within the limit
-abbrev pub form_of_table : (Counts → ℕ) → GameTable → Answer Refusal FormData
-form_of_table rows t = do
+abbrev pub table_form_within : (Counts → ℕ) → GameTable → Answer Refusal FormData
+table_form_within rows t = do
   refused_by refusal.TooLarge (within what.Rows most_rows (rows (table_counts t)))
   refused_by sequence_refusal (table_form t)
 
 -- the sequence form of a tree in which all players recall, where its problem is within the limit
-abbrev pub form_of_tree : (Counts → ℕ) → GameTree → Answer Refusal FormData
-form_of_tree rows t = do
+abbrev pub tree_form_within : (Counts → ℕ) → GameTree → Answer Refusal FormData
+tree_form_within rows t = do
   refused_by recall_refusal (recall_of t)
   refused_by refusal.TooLarge (within what.Rows most_rows (rows (tree_counts t)))
   refused_by sequence_refusal (tree_form t)
@@ -62,10 +62,10 @@ form_of_tree rows t = do
 -- The sequence form on which a tool works: that of the game's strategic form; but of a tree its own,
 -- unless strategies are asked for.
 abbrev pub form_in : (Counts → ℕ) → Bool → Game → Answer Refusal FormData
-form_in rows false (Extensive t) = form_of_tree rows t
+form_in rows false (Extensive t) = tree_form_within rows t
 form_in rows _ game = do
-  table ← strategic_form game
-  form_of_table rows table
+  table ← strategic_table game
+  table_form_within rows table
 
 -- a form that a game has, by some count of its rows
 abbrev pub HasForm : Bool → Game → FormData → Type 0

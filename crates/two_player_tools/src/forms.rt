@@ -5,7 +5,7 @@ ghost use Rattle.game_core.specs.Limits.{most_rows, within};
 ghost use Rattle.game_core.specs.TreeGame.{game_of_tree};
 ghost use Rattle.perfect_recall.specs.Found.{IsRecallOf};
 ghost use Rattle.sequence_data.specs.Sizes.{AreFew};
-ghost use Rattle.two_player_tools.specs.TwoPlayers.{players_of, two_players, rows_by, form_of_table, form_of_tree, form_in};
+ghost use Rattle.two_player_tools.specs.TwoPlayers.{players_of, two_players, rows_by, table_form_within, tree_form_within, form_in};
 
 use game_core::{Game, MOST_ROWS, Table, TooLarge, Tree, What};
 use perfect_recall::{Recall, find_recall};
@@ -15,10 +15,12 @@ use sequence_data::SeqForm;
 use sequence_form::{Counts, build, build_table, counts_table, counts_tree, program_size, rows};
 use std::alloc::Global;
 
-/// How a sequence form is solved: by its linear program, or by its complementarity problem.
+/// How a sequence form is solved.
 #[derive(Clone, Copy, Debug, PartialEq, Eq)]
 pub enum Method {
+    /// By its linear program.
     LinearProgram,
+    /// By its complementarity problem.
     Complementarity,
 }
 
@@ -74,9 +76,9 @@ fn within_rows(rows: u64) -> Result<(), Refusal>
 }
 
 // The sequence form of a table, where the rows that the method counts are within the limit.
-fn form_of_table(alloc: Global, method: Method, table: &Table) -> Result<SeqForm, Refusal>
+fn table_form_within(alloc: Global, method: Method, table: &Table) -> Result<SeqForm, Refusal>
     requires { length table.now.players ≡ 2 }
-    ensures { Gives Refusal.Memory (form_of_table (rows_by method) table.now) result }
+    ensures { Gives Refusal.Memory (table_form_within (rows_by method) table.now) result }
 {
     within_rows(row_count(method, &counts_table(table)))?;
     Ok(build_table(alloc, table)?)
@@ -92,16 +94,20 @@ fn form_by_recall(
 ) -> Result<SeqForm, Refusal>
     requires two { length tree.now.players ≡ 2 }
     requires recall { IsRecallOf (game_of_tree tree.now) recall.now }
-    ensures { Gives Refusal.Memory (form_of_tree (rows_by method) tree.now) result }
+    ensures { Gives Refusal.Memory (tree_form_within (rows_by method) tree.now) result }
 {
     within_rows(row_count(method, &counts_tree(tree)))?;
     Ok(build(alloc, tree, recall)?)
 }
 
 /// The sequence form of a tree, where the rows that the method counts are within the limit.
-pub(crate) fn form_of_tree(alloc: Global, method: Method, tree: &Tree) -> Result<SeqForm, Refusal>
+pub(crate) fn tree_form_within(
+    alloc: Global,
+    method: Method,
+    tree: &Tree,
+) -> Result<SeqForm, Refusal>
     requires { length tree.now.players ≡ 2 }
-    ensures { Gives Refusal.Memory (form_of_tree (rows_by method) tree.now) result }
+    ensures { Gives Refusal.Memory (tree_form_within (rows_by method) tree.now) result }
 {
     let recall = find_recall(alloc, tree)?;
     form_by_recall(alloc, method, tree, &recall)
@@ -119,11 +125,11 @@ pub(crate) fn form_in(
     ensures { Gives Refusal.Memory (form_in (rows_by method) strategic game.now) result }
 {
     match game {
-        Game::Strategic(table) => form_of_table(alloc, method, table),
+        Game::Strategic(table) => table_form_within(alloc, method, table),
         Game::Extensive(tree) if strategic => {
             let reduced = reduce(alloc, tree)?;
-            form_of_table(alloc, method, reduced.table())
+            table_form_within(alloc, method, reduced.table())
         }
-        Game::Extensive(tree) => form_of_tree(alloc, method, tree),
+        Game::Extensive(tree) => tree_form_within(alloc, method, tree),
     }
 }

@@ -41,8 +41,8 @@ fn equilibrium_text(alloc: Global, strategic: bool, game: &Game) -> Result<Vec<u
     form_text(alloc, strategic, game, &form)
 }
 
-/// The text of `lcp`: the line of an equilibrium of a game; of a tree, where `perfect` is set, one that
-/// is found subgame by subgame.
+/// The text of `lcp`: the line of an equilibrium of a game; of a tree, where `perfect` is set, one
+/// that is found subgame by subgame.
 ///
 /// # Errors
 ///

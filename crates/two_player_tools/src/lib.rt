@@ -1,15 +1,15 @@
-//! The tools `lp` and `lcp` on a game that was read: a sequence form, its solution by a linear program
-//! or by complementary pivots, and the text of what is found.
+//! The tools `lp` and `lcp` on a game that was read: a sequence form, its solution by a linear
+//! program or by complementary pivots, and the text of what is found.
 //!
 //! Callers may rely on: `lp_text` and `lcp_text` give the text that is defined, or the refusal that
 //! the first failing stage gives; `two_players` refuses other games; `lp_texts_are_solutions` and
-//! `lcp_texts_are_equilibria` say what each text is, `solutions_are_single` that there is at most one
-//! answer, and `solutions_are_answered` that there is one, as `strategic_forms_are_single` and
-//! `strategic_forms_are_answered` of the strategic form.
-//! Definitions: `specs::StrategicForms` has the strategic form that all tools take; `TwoPlayers` says
-//! which sequence form a tool works on, `Lp` and `Lcp` what each answers, `Entries` the line of two
-//! plans, `Perfect` what they answer of a tree that is solved subgame by subgame; `LpLaws`, `LcpLaws`
-//! and `PerfectTexts` what holds of each text.
+//! `lcp_texts_are_equilibria` say what each text is, `solutions_are_single` that there is at most
+//! one answer, and `solutions_are_answered` that there is one, as `strategic_tables_are_single` and
+//! `strategic_tables_are_answered` of the strategic form.
+//! Definitions: `specs::StrategicForms` has the strategic form that all tools take; `TwoPlayers`
+//! says which sequence form a tool works on, `Lp` and `Lcp` what each answers, `Entries` the line
+//! of two plans, `Perfect` what they answer of a tree that is solved subgame by subgame; `LpLaws`,
+//! `LcpLaws` and `PerfectTexts` what holds of each text.
 //! Private words: `specs::Solved` and `KnownCuts`, for code between stages.
 //! Lemmas for callers: `proofs::StrategicFormLemmas`, `FormSingleLemmas`.
 //! A change here touches: `gambit_tools`, docs/THEOREM.md.
@@ -21,7 +21,7 @@ ghost use Rattle.answers.specs.Answers.{IsSingle};
 ghost use Rattle.game_core.specs.declared.game.Game.{Game};
 ghost use Rattle.two_player_tools.specs.GameTypes.{IsGame};
 ghost use Rattle.two_player_tools.specs.Perfect.{lcp_tool, lp_tool};
-ghost use Rattle.two_player_tools.specs.StrategicForms.{strategic_form};
+ghost use Rattle.two_player_tools.specs.StrategicForms.{strategic_table};
 
 use game_core::{sets_are_numbered_by_first_nodes, trees_are_game_trees};
 use perfect_recall::recalls_are_single;
@@ -41,13 +41,13 @@ pub use lcp::{lcp_text, lcp_texts_are_equilibria};
 pub use lp::{lp_text, lp_texts_are_solutions};
 
 /// A game has at most one answer: its strategic form, or the reason why it has none.
-pub fn strategic_forms_are_single()
-    ensures { (game : Game) → IsSingle (strategic_form game) }
+pub fn strategic_tables_are_single()
+    ensures { (game : Game) → IsSingle (strategic_table game) }
 {}
 
 /// Each game has its strategic form, or a reason why it has none.
-pub fn strategic_forms_are_answered()
-    ensures { (game : Game) → IsGame game → IsAnswered (strategic_form game) }
+pub fn strategic_tables_are_answered()
+    ensures { (game : Game) → IsGame game → IsAnswered (strategic_table game) }
 {}
 
 /// A game has at most one answer by each tool.

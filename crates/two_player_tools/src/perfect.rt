@@ -41,10 +41,10 @@ ghost use Rattle.two_player_tools.specs.Perfect.{
   perfect_text,
   worth_refusal,
 };
-ghost use Rattle.two_player_tools.specs.TwoPlayers.{form_of_tree, rows_by};
+ghost use Rattle.two_player_tools.specs.TwoPlayers.{tree_form_within, rows_by};
 
 use crate::entries::plan_behaviour;
-use crate::forms::{Method, form_of_tree, two_players_of};
+use crate::forms::{Method, tree_form_within, two_players_of};
 use crate::pivoting::equilibrium_in;
 use crate::solving::solve;
 use answers::Memory;
@@ -79,7 +79,7 @@ struct SolvedCut {
 
 // The behaviour of a tree that its linear program gives.
 fn program_behaviour(alloc: Global, tree: &Tree, form: &SeqForm) -> Result<Behaviour, Refusal>
-    requires { form_of_tree (rows_by Method.LinearProgram) tree.now (Ok form.now) }
+    requires { tree_form_within (rows_by Method.LinearProgram) tree.now (Ok form.now) }
     ensures answer { Gives Refusal.Memory (entries_by Method.LinearProgram tree.now) result }
     ensures entries { IfOk result (AreBehaviourEntries tree.now) }
 {
@@ -90,7 +90,7 @@ fn program_behaviour(alloc: Global, tree: &Tree, form: &SeqForm) -> Result<Behav
 
 // The behaviour of a tree that its complementarity problem gives.
 fn pivot_behaviour(alloc: Global, tree: &Tree, form: &SeqForm) -> Result<Behaviour, Refusal>
-    requires { form_of_tree (rows_by Method.Complementarity) tree.now (Ok form.now) }
+    requires { tree_form_within (rows_by Method.Complementarity) tree.now (Ok form.now) }
     ensures answer { Gives Refusal.Memory (entries_by Method.Complementarity tree.now) result }
     ensures entries { IfOk result (AreBehaviourEntries tree.now) }
 {
@@ -105,7 +105,7 @@ fn form_behaviour(
     tree: &Tree,
     form: &SeqForm,
 ) -> Result<Behaviour, Refusal>
-    requires { form_of_tree (rows_by method) tree.now (Ok form.now) }
+    requires { tree_form_within (rows_by method) tree.now (Ok form.now) }
     ensures answer { Gives Refusal.Memory (entries_by method tree.now) result }
     ensures entries { IfOk result (AreBehaviourEntries tree.now) }
 {
@@ -121,7 +121,7 @@ fn behaviour_by(alloc: Global, method: Method, tree: &Tree) -> Result<Behaviour,
     ensures answer { Gives Refusal.Memory (entries_by method tree.now) result }
     ensures entries { IfOk result (AreBehaviourEntries tree.now) }
 {
-    let form = form_of_tree(alloc, method, tree)?;
+    let form = tree_form_within(alloc, method, tree)?;
     form_behaviour(alloc, method, tree, &form)
 }
 
@@ -129,10 +129,7 @@ fn behaviour_by(alloc: Global, method: Method, tree: &Tree) -> Result<Behaviour,
 fn whole_node(nodes: &[u32], node: u32) -> u32
     ensures { result ≡ slice_index nodes.now node }
 {
-    match nodes.get(node as usize) {
-        Some(number) => *number,
-        None => 0,
-    }
+    nodes.get(node as usize).copied().unwrap_or(0)
 }
 
 // A refusal in the cut at a node, as it is told of the whole tree.

@@ -13,10 +13,12 @@ use std::marker::Brand;
 use std::sync::ledger::{Blank, Ledger};
 use zero_sum_lp::{Lp, Optimum, program};
 
-/// A form's solution: the optimum of its program, which has the prices, and both players' plans.
+/// A form's solution.
 #[derive(Debug, Drop)]
 pub struct Solved {
+    /// The optimum of its program, which has the prices.
     pub optimum: Optimum,
+    /// Both players' plans.
     pub plans: Plans,
 }
 

@@ -4,7 +4,6 @@ use Rattle.std.proofs.Common.{ℕ, zero, suc, ◌<◌, ◌≡◌, Option, None, 
 use Rattle.std.specs.Prelude.{if◌then◌else◌}
 use Rattle.std.specs.List.{range_with_len}
 use Rattle.answers.specs.Answers.{refused_by}
-use Rattle.lists.proofs.ElementLemmas.{made-same}
 use Rattle.rational.specs.Rational.{ℚ, ◌*ℚ◌, ◌≤ℚ◌, zero_ℚ, one_ℚ}
 use Rattle.rational.specs.Sum.{sum_to}
 use Rattle.rational.proofs.SumLemmas.{sum_to-same}
@@ -12,11 +11,11 @@ use Rattle.game_theory.specs.Mixed.{sure}
 use Rattle.game_theory.specs.Trees.{Tree, IsTree}
 use Rattle.game_theory.specs.Behaviour.{Behaviour, IsValid, action_probability, branch_probability, is_own, of_owner, reply, value}
 use Rattle.game_theory.specs.Children.{child}
-use Rattle.game_theory.specs.OwnSets.{own_sets}
-use Rattle.game_theory.specs.TreeEntries.{own_entries, tree_entries}
+use Rattle.game_theory.specs.OwnSets.{player_sets}
+use Rattle.game_theory.specs.TreeEntries.{tree_entries}
 use Rattle.game_theory.specs.TreeEquilibrium.{IsEquilibrium}
 use Rattle.game_theory.proofs.NamedChildLemmas.{child-later}
-use Rattle.game_theory.proofs.OwnSetLemmas.{own_sets-tell}
+use Rattle.game_theory.proofs.PlayerSetLemmas.{player_sets-tell}
 use Rattle.game_theory.proofs.PathLemmas.{along_paths}
 use Rattle.game_theory.proofs.ChildLemmas.{where_true}
 use Rattle.game_theory.proofs.SubtreeLemmas.{value-agree}
@@ -83,8 +82,7 @@ module _ (t : Tree) (b other : Behaviour) (w : IsTree t) (alike : AreAlike t b o
   -- players have the same entries
   pub tree_entries-alike : tree_entries t b ≡ tree_entries t other
   tree_entries-alike =
-      made-same (own_entries t b) (own_entries t other) 0 t.players
-      (λ i p l. entries_at-same t b other (own_sets t i) (λ s a among m. let own = own_sets-tell t i s among in alike s i a own.0 own.1 m))
+      entries_at-same t b other (player_sets t) (λ s a among m. let own = player_sets-tell t s among in alike s own.0 a own.1 own.2 m)
 
   module _ (i : ℕ) where
     -- what a node pays takes the same steps, where those of later nodes are the same

@@ -21,7 +21,7 @@ use Rattle.best_replies.proofs.WeightLemmas.{own_or_not, if_own, if_other}
 use Rattle.verdicts.specs.TreeSteps.{child_value, after_steps, after_sum, reply_steps_to, reply_steps, members, member_child, action_steps, decision_steps, player_steps, has_factor, weight_step, weight_steps}
 use Rattle.verdicts.proofs.AlikeBehaviourLemmas.{AreAlike, branch-alike, now_steps-alike, reply_value-alike, weight-alike}
 use Rattle.verdicts.proofs.TreeOwnSetLemmas.{turned}
-use Rattle.verdicts.proofs.TreeSumLemmas.{sum_steps-same}
+use Rattle.frac128.proofs.SumStepLemmas.{sum_steps-same}
 
 -- ---- lists of steps
 -- parts of a list from its last element on

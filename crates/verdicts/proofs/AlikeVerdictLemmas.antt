@@ -8,7 +8,7 @@ use Rattle.frac128.specs.Steps.{StepFits, IsFirstUnfit}
 use Rattle.verdicts.specs.declared.trees.TreeVerdict.{TreeVerdict}
 use Rattle.verdicts.specs.declared.trees.TreeVerdict.TheVariants.{Equilibrium, Better, Range}
 use Rattle.verdicts.specs.TreeSteps.{player_steps}
-use Rattle.verdicts.specs.TreeVerdicts.{HasNoBetter, IsTreeVerdict}
+use Rattle.verdicts.specs.TreeVerdicts.{PassesTree, IsTreeVerdict}
 use Rattle.verdicts.proofs.AlikeBehaviourLemmas.{AreAlike, best_choices-alike, reply_value-alike, value-alike}
 use Rattle.verdicts.proofs.AlikeChoiceLemmas.{steps-alike}
 
@@ -16,7 +16,7 @@ module _ (t : Tree) (b other : Behaviour) (w : IsTree t) (alike : AreAlike t b o
   player_steps-alike : (i : ℕ) (choice : ℕ → ℕ) → AreBestChoices t b i choice → player_steps t b i choice ≡ player_steps t other i choice
   player_steps-alike i choice best = steps-alike t b other i choice choice w alike (λ s l o. (best s l o).within) (λ s l o. refl)
 
-  no_better-alike : (i : ℕ) → HasNoBetter t b i → HasNoBetter t other i
+  no_better-alike : (i : ℕ) → PassesTree t b i → PassesTree t other i
   no_better-alike i h = record {
     choice = h.choice;
     is_best = best_choices-alike t b other w alike i h.choice h.is_best;

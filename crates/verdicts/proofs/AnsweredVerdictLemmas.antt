@@ -32,7 +32,7 @@ use Rattle.verdicts.specs.declared.trees.TreeVerdict.TheVariants as tree_verdict
 
 -- ---- tables
 -- where a player is the first of whom it does not hold that no strategy is better
-module _ (g : Game) (m : Mixed) (i : ℕ) (is_player : i < length g.strategies) (some : 0 < slice_index g.strategies i) (earlier : (j : ℕ) → j < i → tables.HasNoBetter g m j) (fails : ¬ (tables.HasNoBetter g m i)) where
+module _ (g : Game) (m : Mixed) (i : ℕ) (is_player : i < length g.strategies) (some : 0 < slice_index g.strategies i) (earlier : (j : ℕ) → j < i → tables.PassesTable g m j) (fails : ¬ (tables.PassesTable g m i)) where
   -- a first best strategy is better, where the steps fit
   better-strategy : All StepFits (tables.player_steps g m i) → (verdict : TableVerdict) × tables.IsTableVerdict g m verdict
   better-strategy fit =
@@ -57,14 +57,14 @@ module _ (g : Game) (m : Mixed) (i : ℕ) (is_player : i < length g.strategies) 
 -- a mixed profile has a verdict
 pub table_verdict-exists : (g : Game) (m : Mixed) → All (λ n. 0 < n) g.strategies → ¬ ¬ ((verdict : TableVerdict) × tables.IsTableVerdict g m verdict)
 table_verdict-exists g m some none =
-    all_or_first_below (tables.HasNoBetter g m) (length g.strategies) (λ found. elim found [
+    all_or_first_below (tables.PassesTable g m) (length g.strategies) (λ found. elim found [
       | inl all ↦ none (table_verdicts.Equilibrium, all)
       | inr first ↦ all_steps_fit-answered (tables.player_steps g m first.0) (λ answer h. none (told-strategy g m first.0 first.1 (some first.0 0 first.1) first.3 first.2 answer h))
     ])
 
 -- ---- trees
 -- where a player is the first of whom it does not hold that no reply is better
-module _ (t : Tree) (b : Behaviour) (i : ℕ) (within : i < t.players) (choice : ℕ → ℕ) (best : AreBestChoices t b i choice) (earlier : (j : ℕ) → j < i → trees.HasNoBetter t b j) (fails : ¬ (trees.HasNoBetter t b i)) where
+module _ (t : Tree) (b : Behaviour) (i : ℕ) (within : i < t.players) (choice : ℕ → ℕ) (best : AreBestChoices t b i choice) (earlier : (j : ℕ) → j < i → trees.PassesTree t b j) (fails : ¬ (trees.PassesTree t b i)) where
   -- the best choices are better, where the steps fit
   better-reply : All StepFits (tree_steps.player_steps t b i choice) → (verdict : TreeVerdict) × (reply : List ℕ) × trees.IsTreeVerdict t b verdict reply
   better-reply fit =
@@ -95,12 +95,12 @@ module _ (t : Tree) (b : Behaviour) (i : ℕ) (within : i < t.players) (choice :
 -- behaviour has a verdict
 pub tree_verdict-exists : (t : Tree) (b : Behaviour) → IsTree t → AreNumberedByFirstNodes t → AllRecall t → ¬ ¬ ((verdict : TreeVerdict) × (reply : List ℕ) × trees.IsTreeVerdict t b verdict reply)
 tree_verdict-exists t b valid numbered recall none =
-    all_or_first_below (trees.HasNoBetter t b) t.players (λ found. elim found [
+    all_or_first_below (trees.PassesTree t b) t.players (λ found. elim found [
       | inl all ↦ none (tree_verdicts.Equilibrium, [], (all, refl))
       | inr first ↦ by first.0 first.1 first.3 first.2 (best_choices-exist t b first.0 valid (sets-ascend_on_paths t first.0 valid (recall first.0 first.1) numbered))
     ])
   where
-    by : (i : ℕ) → i < t.players → ((j : ℕ) → j < i → trees.HasNoBetter t b j) → ¬ (trees.HasNoBetter t b i) → (choice : ℕ → ℕ) × AreBestChoices t b i choice → ⊥
+    by : (i : ℕ) → i < t.players → ((j : ℕ) → j < i → trees.PassesTree t b j) → ¬ (trees.PassesTree t b i) → (choice : ℕ → ℕ) × AreBestChoices t b i choice → ⊥
     by i within earlier fails best =
         all_steps_fit-answered (tree_steps.player_steps t b i best.0) (λ answer h. none (told-reply t b i within best.0 best.1 earlier fails answer h))
 
@@ -113,4 +113,4 @@ table_verdicts-exist table m valid none =
 -- so have those of behaviour
 pub tree_verdicts-exist : ((tree : GameTree) → IsGameTree tree → IsTree (game_of_tree tree)) → ((tree : GameTree) → IsGameTree tree → AreNumberedByFirstNodes (game_of_tree tree)) → TreeVerdictsExist
 tree_verdicts-exist game numbered tree b valid recall none =
-    tree_verdict-exists (game_of_tree tree) b (game tree valid) (numbered tree valid) recall (λ found. none found.0 found.1 (b, refl, found.2))
+    tree_verdict-exists (game_of_tree tree) b (game tree valid) (numbered tree valid) recall (λ found. none (found.0, found.1) (b, refl, found.2))

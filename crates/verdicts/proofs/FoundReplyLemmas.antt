@@ -10,11 +10,11 @@ use Rattle.best_replies.specs.Replies.{reply_value, AreBestChoices}
 use Rattle.frac128.specs.Steps.{StepFits}
 use Rattle.verdicts.specs.TreeReplies.{AreChosen}
 use Rattle.verdicts.specs.TreeSteps.{player_steps}
-use Rattle.verdicts.specs.TreeVerdicts.{HasNoBetter, IsBetter}
+use Rattle.verdicts.specs.TreeVerdicts.{PassesTree, IsBetter}
 
 module _ (t : Tree) (b : Behaviour) (i : ℕ) (choice : ℕ → ℕ) (now best : ℚ) (is_best : AreBestChoices t b i choice) (now_is : now ≡ payoff t b i) (best_is : best ≡ reply_value t b i choice 0) (fit : All StepFits (player_steps t b i choice)) where
   -- best choices that do not pay more
-  pub none-better : (now <ℚ best → ⊥) → HasNoBetter t b i
+  pub none-better : (now <ℚ best → ⊥) → PassesTree t b i
   none-better not_less = record {
     choice = choice;
     is_best = is_best;
@@ -23,7 +23,7 @@ module _ (t : Tree) (b : Behaviour) (i : ℕ) (choice : ℕ → ℕ) (now best :
   }
 
   -- best choices that pay more
-  pub one-better : (choices reply : List ℕ) → i < t.players → ((j : ℕ) → j < i → HasNoBetter t b j) → now <ℚ best → AreChosen t i choice choices → reply ≡ map (λ s. get_or choices s 0) (own_sets t i) → IsBetter t b i now best reply
+  pub one-better : (choices reply : List ℕ) → i < t.players → ((j : ℕ) → j < i → PassesTree t b j) → now <ℚ best → AreChosen t i choice choices → reply ≡ map (λ s. get_or choices s 0) (own_sets t i) → IsBetter t b i now best reply
   one-better choices reply l earlier more chosen is = record {
     within = l;
     earlier = earlier;

@@ -20,6 +20,5 @@ pub mod TreeReplyLemmas
 pub mod TreeReplyPartLemmas
 pub mod TreeReplyStepLemmas
 pub mod TreeSingleLemmas
-pub mod TreeSumLemmas
 pub mod TreeVerdictLaws
 pub mod TreeWeightStepLemmas

@@ -15,7 +15,7 @@ use Rattle.frac128.specs.Steps.{Step, StepFits, IsFirstUnfit}
 use Rattle.frac128.proofs.FirstUnfitLemmas.{unfit_among, unfit_once}
 use Rattle.best_replies.specs.Strategies.{own_as_one, strategy_value, weight, value_below}
 use Rattle.best_replies.proofs.FirstGreatestLemmas.{IsFirstGreatest-same, first_greatest-unique}
-use Rattle.verdicts.specs.TableChecks.{HasNoBetter, IsBetterReply, IsFirstBetter, IsRangeStop, IsTableVerdict, others_probabilities, payoff_below, payoff_steps, player_steps, product_steps, steps_at, strategy_steps, value_steps, weighed_steps}
+use Rattle.verdicts.specs.TableChecks.{PassesTable, IsBetterReply, IsFirstBetter, IsRangeStop, IsTableVerdict, others_probabilities, payoff_below, payoff_steps, player_steps, product_steps, steps_at, strategy_steps, value_steps, weighed_steps}
 use Rattle.verdicts.specs.TableLaws.{TableVerdictsAreSingle}
 use Rattle.verdicts.proofs.TableOtherLemmas.{others_from, others-from_first}
 use Rattle.verdicts.specs.declared.tables.TableVerdict.{TableVerdict}
@@ -88,7 +88,7 @@ module _ (g : Game) (m other : Mixed) (same : (i s : ℕ) → i < length g.strat
     payoff-same : payoff_of g m i ≡ payoff_of g other i
     payoff-same = sum_to-same (profile_count g.strategies) _ _ (λ k b. ap (λ p. p *ℚ g.pays i k) (probability-same (profile_at g.strategies k) m other (at_profile k b)))
 
-    no_better-same : HasNoBetter g m i → HasNoBetter g other i
+    no_better-same : PassesTable g m i → PassesTable g other i
     no_better-same h =
         record {
           fit = subst (All StepFits) player-same h.fit;
@@ -119,7 +119,7 @@ module _ (g : Game) (m other : Mixed) (same : (i s : ℕ) → i < length g.strat
 
 -- ---- verdicts of one profile
 module _ (g : Game) (m : Mixed) where
-  clash : (i reply : ℕ) (payoff best : ℚ) → HasNoBetter g m i → IsBetterReply g m i payoff best reply → ⊥
+  clash : (i reply : ℕ) (payoff best : ℚ) → PassesTable g m i → IsBetterReply g m i payoff best reply → ⊥
   clash i reply payoff best h b =
       not_lt_of_le (strategy_value g m i reply) (payoff_of g m i) (h.no_more reply b.is_best.within)
       (subst (λ x. x <ℚ strategy_value g m i reply) b.payoff_is (subst (λ x. payoff <ℚ x) b.best_is b.pays_more))

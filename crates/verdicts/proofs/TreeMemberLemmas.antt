@@ -11,7 +11,7 @@ use Rattle.rational.specs.Rational.{ℚ, ◌+ℚ◌, zero_ℚ}
 use Rattle.rational.specs.Sum.{sum_to}
 use Rattle.rational.proofs.RationalRing.{+ℚ-zero}
 use Rattle.rational.proofs.SumLemmas.{sum_to-same}
-use Rattle.frac128.specs.Steps.{AddFits, StepFits}
+use Rattle.frac128.specs.Steps.{AddFits, StepFits, sum_steps}
 use Rattle.game_theory.specs.Trees.{Tree, IsTree}
 use Rattle.game_theory.specs.Behaviour.{Behaviour}
 use Rattle.game_theory.specs.Children.{child}
@@ -24,8 +24,8 @@ use Rattle.best_replies.proofs.ReplyValueLemmas.{action_value-by_members}
 use Rattle.best_replies.proofs.SetOrderLemmas.{within-trans, above-le}
 use Rattle.perfect_recall.proofs.MemberLemmas.{AreMembers, members-at}
 use Rattle.verdicts.specs.TreeReplies.{AreDecided, OwnSetsFrom, IsComputed}
-use Rattle.verdicts.specs.TreeSteps.{members, member_child, action_steps, reply_steps, sum_steps}
-use Rattle.verdicts.proofs.TreeSumLemmas.{sum-more}
+use Rattle.verdicts.specs.TreeSteps.{members, member_child, action_steps, reply_steps}
+use Rattle.frac128.proofs.SumStepLemmas.{sum-more}
 
 -- ---- the members of a tree's set
 -- those that the tree lists

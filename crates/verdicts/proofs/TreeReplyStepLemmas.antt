@@ -20,7 +20,7 @@ use Rattle.frac128.proofs.StepRunLemmas.{first_unfit-more, first_unfit-following
 use Rattle.verdicts.specs.TreeReplies.{after_steps_at, after_sum_at}
 use Rattle.verdicts.specs.TreeSteps.{child_value, children_steps, children_sum, after_steps, after_sum, own_steps, reply_steps_to, reply_steps}
 use Rattle.verdicts.proofs.TreeDepthLemmas.{told-recurs}
-use Rattle.verdicts.proofs.TreeSumLemmas.{sum_steps-same}
+use Rattle.frac128.proofs.SumStepLemmas.{sum_steps-same}
 
 module _ (t : Tree) (b : Behaviour) (i : ℕ) (choice : ℕ → ℕ) (w : IsTree t) where
   -- the steps at a node, where those of later nodes are the same

@@ -19,7 +19,7 @@ use Rattle.frac128.proofs.FirstUnfitLemmas.{unfit_once, unfit_among}
 use Rattle.verdicts.specs.declared.trees.TreeVerdict.{TreeVerdict}
 use Rattle.verdicts.specs.declared.trees.TreeVerdict.TheVariants.{Equilibrium, Better, Range}
 use Rattle.verdicts.specs.TreeSteps.{player_steps}
-use Rattle.verdicts.specs.TreeVerdicts.{HasNoBetter, IsBetter, IsOutOfRange, IsTreeVerdict}
+use Rattle.verdicts.specs.TreeVerdicts.{PassesTree, IsBetter, IsOutOfRange, IsTreeVerdict}
 use Rattle.verdicts.specs.TreeVerdictLaws.{TreeVerdictsAreSingle}
 use Rattle.verdicts.proofs.AlikeChoiceLemmas.{values-alike, steps-alike}
 use Rattle.verdicts.proofs.AlikeVerdictLemmas.{verdict-alike}
@@ -42,7 +42,7 @@ module _ (t : Tree) (b : Behaviour) (w : IsTree t) (numbered : AreNumberedByFirs
 
   -- ---- what excludes what
   -- a player with better choices is not one without
-  better-excludes : (p : ℕ) (now best : ℚ) (reply : List ℕ) → IsBetter t b p now best reply → HasNoBetter t b p → ⊥
+  better-excludes : (p : ℕ) (now best : ℚ) (reply : List ℕ) → IsBetter t b p now best reply → PassesTree t b p → ⊥
   better-excludes p now best reply h g =
       not_le_of_lt _ _ (subst (λ x. x <ℚ best) h.payoff_is h.more) (subst (λ x. x ≤ℚ payoff t b p) (worth-same p h.within g.choice h.choice g.is_best h.is_best ∙ sym h.best_is) g.no_more)
 
@@ -52,13 +52,13 @@ module _ (t : Tree) (b : Behaviour) (w : IsTree t) (numbered : AreNumberedByFirs
       unfit_among _ step h.first (subst (All StepFits) (steps-same h.player h.within choice h.choice best h.is_best) fit)
 
   -- the first player of one kind is the first of another
-  first-same : (p q : ℕ) → ((j : ℕ) → j < p → HasNoBetter t b j) → ((j : ℕ) → j < q → HasNoBetter t b j) → (HasNoBetter t b p → ⊥) → (HasNoBetter t b q → ⊥) → p ≡ q
+  first-same : (p q : ℕ) → ((j : ℕ) → j < p → PassesTree t b j) → ((j : ℕ) → j < q → PassesTree t b j) → (PassesTree t b p → ⊥) → (PassesTree t b q → ⊥) → p ≡ q
   first-same p q h g no_p no_q = elim (cases_lt p q) [
     | inl before ↦ absurd (no_p (g p before))
     | inr later ↦ elim (cases_lt q p) [ inl before ↦ absurd (no_q (h q before)) | inr sooner ↦ omega arith ]
   ]
 
-  out-not : (step : Step) (h : IsOutOfRange t b step) → HasNoBetter t b h.player → ⊥
+  out-not : (step : Step) (h : IsOutOfRange t b step) → PassesTree t b h.player → ⊥
   out-not step h g = out-excludes step h g.choice g.is_best g.fit
 
   -- ---- two verdicts

@@ -15,12 +15,12 @@ use Rattle.best_replies.proofs.VerdictLemmas.{best_choices-tell}
 use Rattle.frac128.proofs.FirstUnfitLemmas.{unfit_among}
 use Rattle.verdicts.specs.declared.trees.TreeVerdict.{TreeVerdict}
 use Rattle.verdicts.specs.declared.trees.TreeVerdict.TheVariants.{Equilibrium, Better, Range}
-use Rattle.verdicts.specs.TreeVerdicts.{HasNoBetter, IsBetter, IsTreeVerdict}
+use Rattle.verdicts.specs.TreeVerdicts.{PassesTree, IsBetter, IsTreeVerdict}
 use Rattle.verdicts.specs.TreeVerdictLaws.{AllPlayersFit, ShowsBetterReply, TreeVerdictsFindEquilibria}
 
 module _ (t : Tree) (b : Behaviour) (w : IsTree t) (recall : (i : ℕ) → i < t.players → HasPerfectRecall t i) where
   -- where no player has better choices there is an equilibrium
-  none-equilibrium : IsValid t b → ((i : ℕ) → i < t.players → HasNoBetter t b i) → IsEquilibrium t b
+  none-equilibrium : IsValid t b → ((i : ℕ) → i < t.players → PassesTree t b i) → IsEquilibrium t b
   none-equilibrium valid h = record {
     valid = valid;
     no_better_reply = λ i other l c. let best = h i l in

@@ -1,5 +1,6 @@
 -- That profiles have verdicts.
 use Rattle.std.specs.Prelude.{ℕ, List}
+use Rattle.answers.specs.Answered.{HasSome}
 use Rattle.game_theory.specs.Behaviour.{Behaviour}
 use Rattle.game_theory.specs.Lines.{entries}
 use Rattle.game_theory.specs.Mixed.{Mixed}
@@ -10,18 +11,17 @@ use Rattle.game_core.specs.Tree.{GameTree, IsGameTree}
 use Rattle.game_core.specs.TreeGame.{game_of_tree}
 use Rattle.verdicts.specs.TableChecks.{table_verdict}
 use Rattle.verdicts.specs.TreeVerdicts.{tree_verdict}
-use Rattle.verdicts.specs.declared.tables.TableVerdict.{TableVerdict}
 use Rattle.verdicts.specs.declared.trees.TreeVerdict.{TreeVerdict}
 
--- a mixed profile of a table has a verdict: it cannot be that it has none
+-- a mixed profile of a table has a verdict
 abbrev pub TableVerdictsExist : Type 0
 TableVerdictsExist =
     (table : GameTable) (m : Mixed) → IsTable table
-    → ¬ ((verdict : TableVerdict) → ¬ (table_verdict table (entries (strategy_counts table) m) verdict))
+    → HasSome (table_verdict table (entries (strategy_counts table) m))
 
--- likewise behaviour on a tree in which all players recall
+-- behaviour on a tree in which all players recall has a verdict, with a reply
 abbrev pub TreeVerdictsExist : Type 0
 TreeVerdictsExist =
     (tree : GameTree) (b : Behaviour) → IsGameTree tree → AllRecall (game_of_tree tree)
-    → ¬ ((verdict : TreeVerdict) (reply : List ℕ)
-    → ¬ (tree_verdict tree (tree_entries (game_of_tree tree) b) verdict reply))
+    → HasSome (λ (v : TreeVerdict × List ℕ).
+    tree_verdict tree (tree_entries (game_of_tree tree) b) v.0 v.1)

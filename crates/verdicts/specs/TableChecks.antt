@@ -5,8 +5,8 @@ use Rattle.std.specs.List.{filter, flat_map, range_with_len}
 use Rattle.rational.specs.Rational.{ℚ, ◌*ℚ◌, ◌≤ℚ◌, ◌<ℚ◌, zero_ℚ, one_ℚ}
 use Rattle.rational.specs.Sum.{sum_to}
 use Rattle.rational.specs.Tests.{eq_ℚ}
-use Rattle.frac128.specs.Steps.{step_of, Step, StepFits, IsFirstUnfit}
-use Rattle.frac128.specs.declared.steps.Op.TheVariants.{Add, Mul}
+use Rattle.frac128.specs.Steps.{added_product_steps, step_of, Step, StepFits, IsFirstUnfit}
+use Rattle.frac128.specs.declared.steps.Op.TheVariants.{Mul}
 use Rattle.game_theory.specs.Profiles.{Game, profile_count, profile_at}
 use Rattle.game_theory.specs.Mixed.{Mixed, payoff as payoff_of}
 use Rattle.game_theory.specs.Lines.{entries}
@@ -25,7 +25,7 @@ product_steps p (q ∷ qs) = step_of Mul p q ∷ product_steps (p *ℚ q) qs
 -- the product of a weight and a number is added to a sum, where the weight is not 0
 abbrev pub weighed_steps : ℚ → ℚ → ℚ → List Step
 weighed_steps w number sum =
-    if eq_ℚ w zero_ℚ then [] else step_of Mul w number ∷ step_of Add sum (w *ℚ number) ∷ []
+    if eq_ℚ w zero_ℚ then [] else added_product_steps sum w number
 
 -- the probabilities with which the players other than i play a profile, in order
 abbrev pub others_probabilities : Mixed → ℕ → List ℕ → List ℚ
@@ -74,8 +74,8 @@ abbrev pub player_steps : Game → Mixed → ℕ → List Step
 player_steps g m i = value_steps g m i ++ payoff_steps g m i
 
 -- ---- verdicts
--- player i's steps fit, and no strategy is worth more than the payoff
-pub record HasNoBetter (g : Game) (m : Mixed) (i : ℕ) : Type 0 where
+-- player i passes: the steps fit, and no strategy is worth more than the payoff
+pub record PassesTable (g : Game) (m : Mixed) (i : ℕ) : Type 0 where
   pub fit : All StepFits (player_steps g m i)
   pub no_more : (s : ℕ) → s < slice_index g.strategies i
       → strategy_value g m i s ≤ℚ payoff_of g m i
@@ -91,26 +91,26 @@ pub record IsBetterReply (g : Game) (m : Mixed) (player : ℕ) (payoff best : �
 
 -- what is found for one player
 abbrev pub IsFound : Game → Mixed → ℕ → Option BetterReply → Type 0
-IsFound g m player None = HasNoBetter g m player
+IsFound g m player None = PassesTable g m player
 IsFound g m player (Some b) = IsBetterReply g m player b.payoff b.best b.reply
 
 -- the first player who has a better reply, where the steps of those before fit
 pub record IsFirstBetter (g : Game) (m : Mixed) (player : ℕ) (payoff best : ℚ) (reply : ℕ)
     : Type 0 where
   pub is_player : player < length g.strategies
-  pub earlier : (i : ℕ) → i < player → HasNoBetter g m i
+  pub earlier : (i : ℕ) → i < player → PassesTable g m i
   pub better : IsBetterReply g m player payoff best reply
 
 -- the first step that does not fit, at a player before whom none has a better reply
 pub record IsRangeStop (g : Game) (m : Mixed) (step : Step) : Type 0 where
   pub player : ℕ
   pub is_player : player < length g.strategies
-  pub earlier : (i : ℕ) → i < player → HasNoBetter g m i
+  pub earlier : (i : ℕ) → i < player → PassesTable g m i
   pub first_unfit : IsFirstUnfit (player_steps g m player) step
 
 -- the verdict of a mixed profile, players in order
 abbrev pub IsTableVerdict : Game → Mixed → TableVerdict → Type 0
-IsTableVerdict g m Equilibrium = (i : ℕ) → i < length g.strategies → HasNoBetter g m i
+IsTableVerdict g m Equilibrium = (i : ℕ) → i < length g.strategies → PassesTable g m i
 IsTableVerdict g m (Better player payoff best reply) = IsFirstBetter g m player payoff best reply
 IsTableVerdict g m (Range step) = IsRangeStop g m step
 

@@ -3,7 +3,7 @@ use Rattle.std.specs.Prelude.{ℕ, zero, suc, ◌&&◌, nat_lt, Bool, true, fals
 use Rattle.std.specs.List.{flat_map, range_with_len}
 use Rattle.rational.specs.Rational.{ℚ, ◌*ℚ◌, zero_ℚ}
 use Rattle.rational.specs.Sum.{sum_to}
-use Rattle.frac128.specs.Steps.{step_of, Step}
+use Rattle.frac128.specs.Steps.{step_of, Step, sum_steps}
 use Rattle.frac128.specs.declared.steps.Op.TheVariants.{Add, Mul}
 use Rattle.game_theory.specs.Trees.{Tree}
 use Rattle.game_theory.specs.Behaviour.{Behaviour, action_probability, branch_probability, is_own, value}
@@ -57,11 +57,6 @@ abbrev pub weight_steps : Tree → Behaviour → ℕ → List Step
 weight_steps t b i = flat_map (weight_step t b i) (range_with_len 0 t.size)
 
 -- ---- reply values
--- a sum from 0 over the first n numbers in order, each added as soon as it is computed
-abbrev pub sum_steps : ℕ → (ℕ → ℚ) → (ℕ → List Step) → List Step
-sum_steps n v later =
-    flat_map (λ k. later k ++ step_of Add (sum_to k v) (v k) ∷ []) (range_with_len 0 n)
-
 -- the reply value of the node to which an action leads
 abbrev pub child_value : Tree → Behaviour → ℕ → (ℕ → ℕ) → ℕ → ℕ → ℚ
 child_value t b i choice k a = reply_value t b i choice (child t k a)

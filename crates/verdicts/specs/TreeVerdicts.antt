@@ -14,8 +14,8 @@ use Rattle.verdicts.specs.declared.trees.TreeVerdict.{TreeVerdict}
 use Rattle.verdicts.specs.declared.trees.TreeVerdict.TheVariants.{Equilibrium, Better, Range}
 use Rattle.verdicts.specs.TreeSteps.{player_steps}
 
--- player i's steps fit, and the best choices pay no more
-pub record HasNoBetter (t : Tree) (b : Behaviour) (i : ℕ) : Type 0 where
+-- player i passes: the steps fit, and the best choices pay no more
+pub record PassesTree (t : Tree) (b : Behaviour) (i : ℕ) : Type 0 where
   pub choice : ℕ → ℕ
   pub is_best : AreBestChoices t b i choice
   pub fit : All StepFits (player_steps t b i choice)
@@ -25,7 +25,7 @@ pub record HasNoBetter (t : Tree) (b : Behaviour) (i : ℕ) : Type 0 where
 pub record IsBetter (t : Tree) (b : Behaviour) (player : ℕ) (payoff best : ℚ)
     (reply : List ℕ) : Type 0 where
   pub within : player < t.players
-  pub earlier : (j : ℕ) → j < player → HasNoBetter t b j
+  pub earlier : (j : ℕ) → j < player → PassesTree t b j
   pub choice : ℕ → ℕ
   pub is_best : AreBestChoices t b player choice
   pub fit : All StepFits (player_steps t b player choice)
@@ -38,14 +38,14 @@ pub record IsBetter (t : Tree) (b : Behaviour) (player : ℕ) (payoff best : ℚ
 pub record IsOutOfRange (t : Tree) (b : Behaviour) (step : Step) : Type 0 where
   pub player : ℕ
   pub within : player < t.players
-  pub earlier : (j : ℕ) → j < player → HasNoBetter t b j
+  pub earlier : (j : ℕ) → j < player → PassesTree t b j
   pub choice : ℕ → ℕ
   pub is_best : AreBestChoices t b player choice
   pub first : IsFirstUnfit (player_steps t b player choice) step
 
 -- a verdict on behaviour, and the reply that comes with it
 abbrev pub IsTreeVerdict : Tree → Behaviour → TreeVerdict → List ℕ → Type 0
-IsTreeVerdict t b Equilibrium reply = ((i : ℕ) → i < t.players → HasNoBetter t b i) × (reply ≡ [])
+IsTreeVerdict t b Equilibrium reply = ((i : ℕ) → i < t.players → PassesTree t b i) × (reply ≡ [])
 IsTreeVerdict t b (Better player payoff best) reply = IsBetter t b player payoff best reply
 IsTreeVerdict t b (Range step) reply = IsOutOfRange t b step × (reply ≡ [])
 

@@ -25,7 +25,8 @@ pub struct Scratch {
     values: Vec<Frac>,
     // For each decided set its action.
     choices: Vec<u32>,
-    // The reply in its first places, as many as `replied` says; what stands after them counts for nothing.
+    // The reply in its first places, as many as `replied` says; what stands after them counts for
+    // nothing.
     reply: Vec<u32>,
     // How many sets the reply has.
     replied: usize,
@@ -89,8 +90,7 @@ impl Scratch {
         if place as usize >= self.replied {
             return None;
         }
-        let action = self.reply.get(place as usize)?;
-        Some(*action)
+        self.reply.get(place as usize).copied()
     }
 
     // Checks a player: what the behaviour pays, and what the best choices pay.

@@ -39,8 +39,8 @@ pub enum TreeVerdict {
 }
 
 /// Whether a behaviour is an equilibrium of a tree in which all players recall, and where it is
-/// none the first player with a better reply, and the best reply, which `scratch` has then. Takes no
-/// memory.
+/// none the first player with a better reply, and the best reply, which `scratch` has then. Takes
+/// no memory.
 pub fn check_tree(
     tree: &Tree,
     recall: &Recall,

@@ -104,8 +104,8 @@ impl<'a> PlayedBehaviour<'a> {
         requires player { player < length self.now.tree.now.players }
         ensures { (b : Behaviour) → Reads self.now b → let t = game_of self.now in
             let v = value t b player child in
-            StepsGive (branch_steps probability sum v (now_steps_at t b player child)) (sum +ℚ probability *ℚ v)
-            result }
+            StepsGive (branch_steps probability sum v (now_steps_at t b player child))
+            (sum +ℚ probability *ℚ v) result }
     {
         if probability.is_zero() {
             return Ok(sum);

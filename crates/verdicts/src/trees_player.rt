@@ -89,12 +89,9 @@ pub(crate) fn write_reply(tree: &Tree, player: u32, choices: &[u32], reply: &mut
     ensures reply { take result reply.new
         ≡ map (slice_index choices.now) (own_sets (game_of_tree tree.now) player) }
 {
-    let mut count = 0;
-    for set in 0..tree.sets().len() {
-        if tree.is_own(set, player) {
-            reply[count] = choices[set];
-            count += 1;
-        }
+    let own = tree.sets_of(player);
+    for (place, set) in own.iter().enumerate() {
+        reply[place] = choices[*set as usize];
     }
-    count
+    own.len()
 }

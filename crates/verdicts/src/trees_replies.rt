@@ -212,11 +212,8 @@ impl<'a> TreeReplies<'a> {
             × All StepFits (decisions t b i choice))
             (IsFirstUnfit (decisions t b i choice)) }
     {
-        for set in (0..self.tree.sets().len()).rev() {
-            if !self.tree.is_own(set, self.player) {
-                continue;
-            }
-            self.decide(choices, values, set)?;
+        for set in self.tree.sets_of(self.player).iter().rev() {
+            self.decide(choices, values, *set as usize)?;
         }
         Ok(())
     }

@@ -11,9 +11,10 @@ const TWO_TO_64: u128 = 18446744073709551616;
 // 2^63.
 const TWO_TO_63: u64 = 9223372036854775808;
 
-// A divisor: an odd number times 2^zeros, with the odd number's inverse modulo 2^64.
+/// A divisor: an odd number times 2^zeros, with the odd number's inverse modulo 2^64.
 #[derive(Clone, Copy)]
 pub struct Divisor {
+    /// The divisor.
     pub value: u64,
     zeros: u32,
     inverse: u64,
@@ -38,7 +39,7 @@ fn long_product(a: u64, b: u64) -> u128
 }
 
 impl Divisor {
-    // The divisor, where it has no more than 64 bits.
+    /// The divisor, where it has no more than 64 bits.
     pub fn of(by: i128) -> Option<Divisor>
         ensures { IfSome result (λ d. pos d.value ≡ by) }
     {
@@ -48,6 +49,7 @@ impl Divisor {
         }
     }
 
+    /// The divisor with this value.
     pub fn new(value: u64) -> Divisor
         ensures { result.value ≡ value }
     {
@@ -59,7 +61,7 @@ impl Divisor {
         }
     }
 
-    // The quotient, where the product with the inverse is one. Nothing is promised where it is not.
+    /// The quotient, where the product with the inverse is one. Nothing is promised where it is not.
     pub fn quotient(&self, n: i128) -> Option<i128>
         requires { PartFits n }
         ensures { IfSome result (λ q. (q *ℤ pos self.now.value ≡ n) × PartFits q) }

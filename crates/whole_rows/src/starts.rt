@@ -95,7 +95,9 @@ fn write_start_row(
 /// A row, counted from 0, and its first step that does not fit.
 #[derive(Drop)]
 pub struct UnfitRow {
+    /// The row.
     pub row: usize,
+    /// Its first step that does not fit.
     pub unfit: Unfit,
 }
 

@@ -22,57 +22,87 @@ use std::alloc::{AllocError, Global};
 /// Which tool is to run, and how. A file that is left out stands for standard input.
 #[derive(Debug, Drop)]
 pub enum Settings {
-    /// List the pure equilibria of a game: those of a tree by reduced strategies where `strategic` is set, and else as
-    /// behaviour. Of a tree where one of the others is set: the choices that are equilibria of the agent form where
-    /// `agents` is set, and else of the players; in every subgame where `perfect` is set. `strategic` is set only
-    /// where both are not.
+    /// List the pure equilibria of a game: those of a tree by reduced strategies where `strategic`
+    /// is set, and else as behaviour. Of a tree where one of the others is set: the choices that
+    /// are equilibria of the agent form where `agents` is set, and else of the players; in every
+    /// subgame where `perfect` is set. `strategic` is set only where both are not.
     Enumpure {
+        /// Whether `-S` is given.
         strategic: bool,
+        /// Whether `-A` is given.
         agents: bool,
+        /// Whether `-P` is given.
         perfect: bool,
+        /// The name of the game's file; standard input without one.
         file: Option<String>,
     },
-    /// List the extreme equilibria of a game of two players: looked for among all strategies where `all` is set (`-D`),
-    /// and else without the strictly dominated ones. From 1 to 64 workers share the enumeration.
+    /// List the extreme equilibria of a game of two players: looked for among all strategies where
+    /// `all` is set (`-D`), and else without the strictly dominated ones. From 1 to 64 workers
+    /// share the enumeration.
     Enummixed {
+        /// Whether `-D` is given.
         all: bool,
+        /// How many workers there are.
         workers: u32,
+        /// The name of the game's file; standard input without one.
         file: Option<String>,
     },
-    /// Print an equilibrium of a game of two players by complementary pivoting: of a tree by reduced strategies where
-    /// `strategic` is set, and else as behaviour, that is one in every subgame where `perfect` is set.
+    /// Print an equilibrium of a game of two players by complementary pivoting: of a tree by
+    /// reduced strategies where `strategic` is set, and else as behaviour, that is one in every
+    /// subgame where `perfect` is set.
     Lcp {
+        /// Whether `-S` is given.
         strategic: bool,
+        /// Whether `-P` is given.
         perfect: bool,
+        /// The name of the game's file; standard input without one.
         file: Option<String>,
     },
-    /// Print an equilibrium of a constant-sum game of two players by linear programming, `strategic` and `perfect` as
-    /// for `Lcp`; and the prices where `prices` is set.
+    /// Print an equilibrium of a constant-sum game of two players by linear programming,
+    /// `strategic` and `perfect` as for `Lcp`; and the prices where `prices` is set.
     Lp {
+        /// Whether `-S` is given.
         strategic: bool,
+        /// Whether `--prices` is given.
         prices: bool,
+        /// Whether `-P` is given.
         perfect: bool,
+        /// The name of the game's file; standard input without one.
         file: Option<String>,
     },
-    /// Print the strategic form in a layout. `row` and `column` are the numbers of players, which count from 1.
+    /// Print the strategic form in a layout. `row` and `column` are the numbers of players, which
+    /// count from 1.
     Convert {
+        /// How the table is laid out.
         layout: Layout,
+        /// The player whose strategies are the rows.
         row: u32,
+        /// The player whose strategies are the columns.
         column: u32,
+        /// The name of the game's file; standard input without one.
         file: Option<String>,
     },
-    /// Check lines of profiles of a game, `strategic` as for `Lcp`: the name of its file, and that of the lines' file.
+    /// Check lines of profiles of a game, `strategic` as for `Lcp`: the name of its file, and that
+    /// of the lines' file.
     Check {
+        /// Whether `-S` is given.
         strategic: bool,
+        /// The name of the game's file.
         game: String,
+        /// The name of the lines' file; standard input without one.
         lines: Option<String>,
     },
-    /// Make a table of two players from a number, which is at most 2,147,483,647, with so many strategies of the first
-    /// and of the second, from 1 to 32, and count what is found in it. From 1 to 64 workers share the enumeration.
+    /// Make a table of two players from a number, which is at most 2,147,483,647, with so many
+    /// strategies of the first and of the second, from 1 to 32, and count what is found in it. From
+    /// 1 to 64 workers share the enumeration.
     Make {
+        /// The number.
         number: u32,
+        /// How many strategies the first player has.
         rows: u32,
+        /// How many strategies the second player has.
         columns: u32,
+        /// How many workers there are.
         workers: u32,
     },
 }

@@ -4,7 +4,8 @@ use std::alloc::AllocError;
 use std::io;
 use std::io::{ErrorKind, Read, Write};
 
-// A reader of zeros, and a writer that takes a few bytes a call: each is interrupted some times first.
+// A reader of zeros, and a writer that takes a few bytes a call: each is interrupted some times
+// first.
 #[derive(Drop)]
 struct Fitful {
     interrupts: u32,

@@ -31,14 +31,16 @@ fn forgets(alloc: Global, text: &[u8], forgets: Forgets) -> bool {
     }
 }
 
-/// In one-card poker nobody chooses twice; the player who is alone chooses again after the second action.
+/// In one-card poker nobody chooses twice; the player who is alone chooses again after the second
+/// action.
 #[test]
 fn players_recall(rt: HostRuntime) {
     assert!(rt; recalls(rt.alloc(), POKER, &[None, None, None, None]));
     assert!(rt; recalls(rt.alloc(), ALONE, &[None, Some((0, 1))]));
 }
 
-/// The set is named as the file numbers it, with its first node and its first node after another choice.
+/// The set is named as the file numbers it, with its first node and its first node after another
+/// choice.
 #[test]
 fn players_forget(rt: HostRuntime) {
     for (text, player, set) in [(FORGET, 0, 2), (SECOND_FORGETS, 1, 7)] {

@@ -12,8 +12,8 @@ use sequence_form::{
 };
 use std::alloc::Global;
 
-// Outcomes stand at the root and at an inner node, nodes of one set lie at different depths, and chance takes its last
-// action never.
+// Outcomes stand at the root and at an inner node, nodes of one set lie at different depths, and
+// chance takes its last action never.
 const MIXED: &[u8] = br#"EFG 2 R "" { "A" "B" }
 c "" 1 "" { "" 1/2 "" 1/2 "" 0 } 1 "" { 1, 2 }
 p "" 1 1 "" { "x" "y" } 2 "" { 10, 0 }
@@ -35,7 +35,8 @@ fn push_payoffs(alloc: Global, text: &mut Vec<u8>, payoffs: &[Frac]) -> Result<(
     Ok(())
 }
 
-// Each cell with its weight and payoffs, and then the greatest payoffs of both players and the least of the first.
+// Each cell with its weight and payoffs, and then the greatest payoffs of both players and the
+// least of the first.
 fn form_text(alloc: Global, form: &SeqForm) -> Result<Vec<u8>, Memory> {
     let mut text = Vec::new(alloc);
     for cell in form.cells() {

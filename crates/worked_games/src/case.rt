@@ -5,9 +5,10 @@ use game_core::{Gate, MemInputs, MemSink, OpenGate};
 use std::alloc::Global;
 use std::thread::Threads;
 
-/// The words of a run with a space between them, the file `game` and standard input, how the outside behaves (the calls of the
-/// inputs that fail, how many bytes the output takes a call and altogether, whether its flush fails, and how many bytes standard
-/// error takes), and the status and bytes that are wanted.
+/// The words of a run with a space between them, the file `game` and standard input, how the
+/// outside behaves (the calls of the inputs that fail, how many bytes the output takes a call and
+/// altogether, whether its flush fails, and how many bytes standard error takes), and the status
+/// and bytes that are wanted.
 #[derive(Clone, Copy)]
 pub struct Case<'a> {
     pub words: &'a str,
@@ -24,8 +25,8 @@ pub struct Case<'a> {
 }
 
 impl<'a> Case<'a> {
-    /// A run with these words over standard input, with nothing that fails and ample room, which ends with status 0 and writes
-    /// nothing.
+    /// A run with these words over standard input, with nothing that fails and ample room, which
+    /// ends with status 0 and writes nothing.
     pub fn of(words: &'a str, input: &'a [u8]) -> Case<'a> {
         Case {
             words,

@@ -2,8 +2,8 @@
 use crate::case::Case;
 use answers::Memory;
 
-/// A fault of standard error changes no status, and leaves a front of the line: the words, the input, the bytes that
-/// standard error takes, the status, and what it took.
+/// A fault of standard error changes no status, and leaves a front of the line: the words, the
+/// input, the bytes that standard error takes, the status, and what it took.
 #[test]
 fn faults_of_the_error_sink_change_nothing(rt: HostRuntime) -> Result<(), Memory> {
     let large = "NFG 1 R \"\" { \"A\" } { 1048577 }";

@@ -14,8 +14,8 @@ const ENTRY: &str =
     "EFG 2 R \"Entry\" { \"E\" \"I\" } p \"\" 1 1 \"\" { \"Out\" \"In\" } 0 t \"\" 1 \"Out\" { 0, 2 } \
 p \"\" 2 1 \"\" { \"Fight\" \"Accommodate\" } 0 t \"\" 2 \"Fight\" { -1, -1 } t \"\" 3 \"Share\" { 1, 1 }";
 
-// Whether the run with each of these lists of failing calls of the inputs writes nothing, and ends with the line that stands beside
-// it and status 3.
+// Whether the run with each of these lists of failing calls of the inputs writes nothing, and ends
+// with the line that stands beside it and status 3.
 fn failing_inputs_are_told<R: Threads + Sync>(
     rt: &R,
     alloc: Global,
@@ -74,9 +74,9 @@ fn a_failing_flush_is_told<R: Threads + Sync>(
     case.holds(rt, alloc)
 }
 
-/// Each selection, read, write and flush that fails, in turn, on tables and on a tree: the selection, the first read, the read that
-/// would find the end; no other call of the inputs is made. Where the text is empty, nothing is written, but a flush still has to
-/// succeed.
+/// Each selection, read, write and flush that fails, in turn, on tables and on a tree: the
+/// selection, the first read, the read that would find the end; no other call of the inputs is
+/// made. Where the text is empty, nothing is written, but a flush still has to succeed.
 #[test]
 fn each_failing_call_is_told(rt: HostRuntime) -> Result<(), Memory> {
     let calls: [(&[u64], &str); 4] = [
@@ -121,8 +121,8 @@ fn each_failing_call_is_told(rt: HostRuntime) -> Result<(), Memory> {
     Ok(())
 }
 
-/// Each selection and each read of both inputs of `check` fails in turn: the game is selected and read in two calls, and then the
-/// lines. Nothing is written. No other call is made.
+/// Each selection and each read of both inputs of `check` fails in turn: the game is selected and
+/// read in two calls, and then the lines. Nothing is written. No other call is made.
 #[test]
 fn failing_inputs_of_check(rt: HostRuntime) -> Result<(), Memory> {
     let calls: [(&[u64], &str); 6] = [

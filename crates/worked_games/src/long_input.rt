@@ -12,8 +12,8 @@ fn spaces(alloc: Global, count: usize) -> Result<Vec<u8>, Memory> {
     Ok(bytes)
 }
 
-/// An input is read to the first byte above the limit on bytes and no further: after its selection and 257 reads of 65,536 bytes at
-/// most, the next call would fail.
+/// An input is read to the first byte above the limit on bytes and no further: after its selection
+/// and 257 reads of 65,536 bytes at most, the next call would fail.
 #[test]
 fn a_long_input_is_not_read_to_its_end(rt: HostRuntime) -> Result<(), Memory> {
     let input = spaces(rt.alloc(), 16_777_218)?;

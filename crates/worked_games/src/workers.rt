@@ -9,7 +9,8 @@ use std::thread::Threads;
 // How long a piece is held at most.
 const TURNS: u64 = 100_000_000;
 
-// Counts the passes, and holds one pass of piece 0 until piece 1 was passed: a worker alone would wait for itself.
+// Counts the passes, and holds one pass of piece 0 until piece 1 was passed: a worker alone would
+// wait for itself.
 #[derive(Drop)]
 struct HoldingGate {
     held: u64,
@@ -59,8 +60,8 @@ impl Gate for HoldingGate {
     }
 }
 
-// Whether a run does what is wanted, passes a gate twelve times and two of its workers run at once, where this pass of piece 0 is
-// held.
+// Whether a run does what is wanted, passes a gate twelve times and two of its workers run at once,
+// where this pass of piece 0 is held.
 fn shares_work<R: Threads + Sync>(
     rt: &R,
     alloc: Global,
@@ -97,9 +98,9 @@ fn same_counts<R: Threads + Sync>(rt: &R, alloc: Global) -> Result<bool, Memory>
     writes(rt, alloc, "make -j 64 1 8 8", text)
 }
 
-/// Both tools hand their workers on, and four workers enumerate both polytopes at once: while one holds the first basis, the other
-/// polytope goes on. Each of the seven bases is passed once for its pivots, and each of the five that are not the first of their
-/// polytope once for its tableau.
+/// Both tools hand their workers on, and four workers enumerate both polytopes at once: while one
+/// holds the first basis, the other polytope goes on. Each of the seven bases is passed once for
+/// its pivots, and each of the five that are not the first of their polytope once for its tableau.
 #[test]
 fn workers_of_both_tools(rt: HostRuntime) -> Result<(), Memory> {
     let counts = "bases 4 3\nvertices 3 2\nequilibria 1\n";
@@ -119,7 +120,8 @@ fn workers_of_both_tools(rt: HostRuntime) -> Result<(), Memory> {
     Ok(())
 }
 
-/// The counts of a table of eight rows and columns are the same for one, two and sixty-four workers.
+/// The counts of a table of eight rows and columns are the same for one, two and sixty-four
+/// workers.
 #[test]
 fn any_number_of_workers(rt: HostRuntime) -> Result<(), Memory> {
     assert!(rt; same_counts(&rt, rt.alloc())?);

@@ -1,10 +1,12 @@
-// Fractions: lowest terms, order, and steps, worked out by hand. 170141183460469231731687303715884105727 is 2^127 - 1, a prime,
-// and the greatest number of 128 bits.
+// Fractions: lowest terms, order, and steps, worked out by hand.
+// 170141183460469231731687303715884105727 is 2^127 - 1, a prime, and the greatest number of 128
+// bits.
 use frac128::{Frac, Op, Unfit};
 use std::cmp::Ordering;
 
-// Pairs of numbers with the fraction that they make in lowest terms, or `none`: both are divided by their greatest common divisor,
-// which stands behind `#` where it is not 1, and the sign goes to the numerator.
+// Pairs of numbers with the fraction that they make in lowest terms, or `none`: both are divided by
+// their greatest common divisor, which stands behind `#` where it is not 1, and the sign goes to
+// the numerator.
 const MADE: &str = "0/0 = none
 1/0 = none
 -170141183460469231731687303715884105728/0 = none
@@ -32,8 +34,8 @@ const MADE: &str = "0/0 = none
 2/-170141183460469231731687303715884105728 = -1/85070591730234615865843651857942052864 # 2
 -6/-170141183460469231731687303715884105728 = 3/85070591730234615865843651857942052864 # 2";
 
-// Fractions in order: m / (m - 1) = 1 + 1 / (m - 1) is less than (m - 1) / (m - 2) = 1 + 1 / (m - 2), and a sign turns an order
-// around.
+// Fractions in order: m / (m - 1) = 1 + 1 / (m - 1) is less than (m - 1) / (m - 2) = 1 + 1 / (m -
+// 2), and a sign turns an order around.
 const COMPARED: &str = "1/2 = -3/-6
 1/3 < 1/2
 -1/3 > -1/2
@@ -48,8 +50,8 @@ const COMPARED: &str = "1/2 = -3/-6
 -170141183460469231731687303715884105727/3 > -170141183460469231731687303715884105727/2
 170141183460469231731687303715884105727/170141183460469231731687303715884105726 = 170141183460469231731687303715884105727/170141183460469231731687303715884105726";
 
-// Sums and differences, each with its working behind `#`: a sum fits where the numerators over the least common denominator, their
-// sum, and the denominator in lowest terms do.
+// Sums and differences, each with its working behind `#`: a sum fits where the numerators over the
+// least common denominator, their sum, and the denominator in lowest terms do.
 const SUMS: &str = "1/2 + 1/3 = 5/6 # 3 + 2 over 6
 1/6 + 1/10 = 4/15 # (5 + 3) / 30 = 8 / 30
 1/2 + -1/2 = 0/1 # 0 / 2

@@ -109,7 +109,8 @@ fn is_cut(text: &str, line: &str, rest: &str) -> bool {
     }
 }
 
-/// A text is cut at its first line feed; without one it is a single line, and an empty one has none.
+/// A text is cut at its first line feed; without one it is a single line, and an empty one has
+/// none.
 #[test]
 fn first_lines_are_cut(rt: HostRuntime) {
     assert!(rt; is_cut("NE,1\n\nNE,0\n", "NE,1", "\nNE,0\n"));

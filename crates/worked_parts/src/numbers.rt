@@ -57,7 +57,8 @@ const LARGE: &str = "9223372036854775808
 1000000000000000000000000000000000000e-18
 1.000000000000000000000000000000000001";
 
-// Texts that are no numbers, the first of them empty. One begins with a space and one ends with one.
+// Texts that are no numbers, the first of them empty. One begins with a space and one ends with
+// one.
 const BAD: &str = "
 +
 -

@@ -6,8 +6,8 @@ use ne_printer::fraction;
 use nfg_reader::read;
 use std::alloc::Global;
 
-// Three players with two, three and one strategies. The payoffs are 0, 1, 2 and so on, so that profile k pays player i
-// the number 3 k + i.
+// Three players with two, three and one strategies. The payoffs are 0, 1, 2 and so on, so that
+// profile k pays player i the number 3 k + i.
 const THREE: &[u8] = br#"NFG 1 R "" { "A" "B" "C" } { 2 3 1 }
 0 1 2  3 4 5  6 7 8  9 10 11  12 13 14  15 16 17"#;
 
@@ -37,7 +37,8 @@ fn readings(alloc: Global, table: &Table) -> Result<Vec<u8>, Memory> {
     Ok(text)
 }
 
-/// The next strategy of the first player is the next profile, of the second 2 profiles further, and of the third 2 * 3.
+/// The next strategy of the first player is the next profile, of the second 2 profiles further, and
+/// of the third 2 * 3.
 #[test]
 fn tables_are_read(rt: HostRuntime) -> Result<(), Memory> {
     let table = table_of(rt.alloc(), THREE).expect(&rt, "a table");

@@ -88,7 +88,8 @@ pub(crate) fn counted<R: Threads + Sync, G: Gate>(
     counts::<R, G, Brand>(rt, alloc, size, workers, gate, Blank::new(1))
 }
 
-/// Cubes with few bases, with nearly as many as may be, and with too many, by one worker and by seven.
+/// Cubes with few bases, with nearly as many as may be, and with too many, by one worker and by
+/// seven.
 #[test]
 fn bases_of_cubes(rt: HostRuntime) -> Result<(), Stop> {
     let alloc = rt.alloc();

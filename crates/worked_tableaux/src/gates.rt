@@ -54,7 +54,8 @@ impl Gate for HoldingGate {
     }
 }
 
-/// Two workers share the three new bases of a cube: while one holds the first, the other passes the second.
+/// Two workers share the three new bases of a cube: while one holds the first, the other passes the
+/// second.
 #[test]
 fn workers_share_a_level(rt: HostRuntime) -> Result<(), Stop> {
     let gate = HoldingGate::new(1);

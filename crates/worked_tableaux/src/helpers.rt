@@ -1,4 +1,5 @@
-// Helpers that are taken and added, and work that they help with: a caller that is proved, and what a gate sees.
+// Helpers that are taken and added, and work that they help with: a caller that is proved, and what
+// a gate sees.
 ghost use Rattle.std.specs.Prelude.{◌≡◌, ◌<◌, ◌*◌, ◌^◌, map, IfOk};
 ghost use Rattle.std.specs.List.{range_with_len};
 
@@ -34,7 +35,8 @@ fn triples<R: Threads + Sync>(
     )
 }
 
-// Makes a helper idle at the first of a hundred pieces, and holds the last but one until the last was passed.
+// Makes a helper idle at the first of a hundred pieces, and holds the last but one until the last
+// was passed.
 #[derive(Drop)]
 struct LateGate {
     helpers: Helpers,

@@ -1,5 +1,5 @@
-//! Tableaux, pairs of vertices, the bases of cubes, work that is shared by claims, and what gates see of
-//! its workers, as tests over their crates. Nothing here is called by the program.
+//! Tableaux, pairs of vertices, the bases of cubes, work that is shared by claims, and what gates
+//! see of its workers, as tests over their crates. Nothing here is called by the program.
 #![tactic(auto)]
 
 #[cfg(test)]

@@ -9,8 +9,9 @@ use std::alloc::Global;
 use std::marker::Sync;
 use std::thread::Threads;
 
-// Whether the places of these words at which the bits together with those of a mask are all are exactly these, whatever stood
-// there before. The mask has bit 0 of its low word and bit 1 of its high word; all are bits 0 to 2 and bits 1 and 2.
+// Whether the places of these words at which the bits together with those of a mask are all are
+// exactly these, whatever stood there before. The mask has bit 0 of its low word and bit 1 of its
+// high word; all are bits 0 to 2 and bits 1 and 2.
 fn are_found(alloc: Global, low: &[u64], high: &[u64], wanted: &[bool]) -> Result<bool, Stop>
     requires { length high.now ≡ length low.now }
 {
@@ -24,7 +25,8 @@ fn are_found(alloc: Global, low: &[u64], high: &[u64], wanted: &[bool]) -> Resul
     Ok(true)
 }
 
-/// Both words count: a place is found where each is complete, not where one of them lacks a bit or has one too many.
+/// Both words count: a place is found where each is complete, not where one of them lacks a bit or
+/// has one too many.
 #[test]
 fn masks_of_two_words(rt: HostRuntime) -> Result<(), Stop> {
     let alloc = rt.alloc();

@@ -86,7 +86,8 @@ impl Gate for CountingGate {
     }
 }
 
-// Whether two workers compute two numbers, of which one waits at the first until the other passed the second.
+// Whether two workers compute two numbers, of which one waits at the first until the other passed
+// the second.
 fn run_at_once<R: Threads + Sync>(rt: &R, alloc: Global) -> Result<bool, Memory> {
     let gate = HoldingGate::new(0);
     let (claims, mut pass) = Claims::new(alloc)?;
@@ -94,7 +95,8 @@ fn run_at_once<R: Threads + Sync>(rt: &R, alloc: Global) -> Result<bool, Memory>
     Ok(got.as_slice() == [0, 1].as_slice() && !gate.gave_up())
 }
 
-// Whether seven workers compute a thousand numbers through a gate, and the pass has all parts again.
+// Whether seven workers compute a thousand numbers through a gate, and the pass has all parts
+// again.
 fn compute_all<R: Threads + Sync>(
     rt: &R,
     alloc: Global,

@@ -22,8 +22,8 @@ enum Outcome<'a> {
     Row(Option<usize>),
 }
 
-// The tableau at the end: one that is not looked at; its rows; or none, since a step of a row of the
-// start does not fit.
+// The tableau at the end: one that is not looked at; its rows; or none, since a step of a row of
+// the start does not fit.
 #[derive(Clone, Copy)]
 enum End<'a> {
     Any,
@@ -31,9 +31,9 @@ enum End<'a> {
     NoStart(u32, &'a str),
 }
 
-// A system, the acts on its tableau with their outcomes, and the end. The cells stand row by row with
-// the right side last. The variables of the rows are numbered 0, 1, .., and those of the columns from
-// there on.
+// A system, the acts on its tableau with their outcomes, and the end. The cells stand row by row
+// with the right side last. The variables of the rows are numbered 0, 1, .., and those of the
+// columns from there on.
 struct Case<'a> {
     rows: u16,
     width: u16,

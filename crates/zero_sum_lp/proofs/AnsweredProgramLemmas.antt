@@ -17,7 +17,7 @@ use Rattle.sequence_data.specs.Data.{FormData, form, side_of}
 use Rattle.sequence_data.specs.Sizes.{form_sizes, program_size}
 use Rattle.sequence_data.specs.declared.types.Leaf.{Leaf}
 use Rattle.zero_sum_lp.specs.AnsweredLaws.{ProgramsAreAnswered}
-use Rattle.zero_sum_lp.specs.FormPrograms.{IsSystemOf, form_start_in, gain_steps, gains_in, is_constant, sum_at, sum_steps, sums_in, told_start, with_start}
+use Rattle.zero_sum_lp.specs.FormPrograms.{IsSystemOf, form_start_in, gain_steps, gains_in, is_constant, sum_at, leaf_sum_steps, sums_in, told_start, with_start}
 use Rattle.zero_sum_lp.specs.Programs.{columns_of, constraints, program_of}
 use Rattle.zero_sum_lp.specs.declared.stop.LpStop.TheVariants as stops
 use Rattle.zero_sum_lp.proofs.SystemLemmas.{system_for}
@@ -63,7 +63,7 @@ programs_answered f _ =
     let numbers = gains_in f.least_one f.cells in
     let size = refused_by stops.TooLarge (within what.Rows most_rows (program_size (form_sizes f))) in
     bind-answered size (λ _. sums_in f.leaves >> (constant >> (numbers >> form_start_in f))) (refused_by-answered stops.TooLarge _ (refuse_where-answered (most_rows < program_size (form_sizes f)) (too_large what.Rows most_rows (program_size (form_sizes f)))))
-    (λ _ few. bind-answered (sums_in f.leaves) (λ _. constant >> (numbers >> form_start_in f)) (refused_by-answered (λ stop. stops.SumRange stop.0.place stop.1) _ (all_fit-answered sum_steps f.leaves))
+    (λ _ few. bind-answered (sums_in f.leaves) (λ _. constant >> (numbers >> form_start_in f)) (refused_by-answered (λ stop. stops.SumRange stop.0.place stop.1) _ (all_fit-answered leaf_sum_steps f.leaves))
     (λ _ _. bind-answered constant (λ _. numbers >> form_start_in f) (refused_by-answered stops.NotConstant _ (is_constant-answered f.leaves))
     (λ _ _. bind-answered numbers (λ _. form_start_in f) (refused_by-answered (λ stop. stops.GainRange stop.0.row stop.0.column stop.1) _ (all_fit-answered (gain_steps f.least_one) f.cells))
     (λ _ _. form_start_in-answered f few))))

@@ -18,7 +18,7 @@ use Rattle.sequence_data.specs.declared.types.Cell.{Cell}
 use Rattle.sequence_data.specs.Data.{FormData, IsFormData, LeafFits, SideData, form, side_of}
 use Rattle.sequence_data.specs.Matrices.{IsInside, placed, HoldsNumbers, number_at}
 use Rattle.sequence_data.specs.Sizes.{form_sizes, program_size}
-use Rattle.zero_sum_lp.specs.FormPrograms.{IsSystemOf, gain_at}
+use Rattle.zero_sum_lp.specs.FormPrograms.{IsSystemOf, cell_gain}
 use Rattle.zero_sum_lp.specs.Systems.{IsSystemFor}
 use Rattle.zero_sum_lp.proofs.OptimumLemmas.{sets_are}
 use Rattle.lists.proofs.OptionLemmas.{if_ok-then}
@@ -28,10 +28,10 @@ gain_head : (b : Bool) (least one weight x y : ℚ) → (if b then one -ℚ (lea
 gain_head true least one weight x y = ring rational_ring (least ∷ one ∷ weight ∷ x ∷ y ∷ []) ((B :- A :* C) :+ (D :- A :* E)) ((B :+ D) :- A :* (C :+ E)) refl
 gain_head false least one weight x y = ring rational_ring (least ∷ x ∷ y ∷ []) (num 0 :+ (B :- A :* C)) ((num 0 :+ B) :- A :* (num 0 :+ C)) refl
 
-placed_gains : (least : ℚ) (cells : List Cell) (r q : ℕ) → listed_at (placed cells (map (gain_at least) cells)) r q ≡ listed_at (map (λ c. (c.row, c.column, c.one)) cells) r q -ℚ (least *ℚ listed_at (map (λ c. (c.row, c.column, c.weight)) cells) r q)
+placed_gains : (least : ℚ) (cells : List Cell) (r q : ℕ) → listed_at (placed cells (map (cell_gain least) cells)) r q ≡ listed_at (map (λ c. (c.row, c.column, c.one)) cells) r q -ℚ (least *ℚ listed_at (map (λ c. (c.row, c.column, c.weight)) cells) r q)
 placed_gains least [] r q = ring rational_ring (least ∷ []) (num 0) (num 0 :- A :* num 0) refl
 placed_gains least (c ∷ cells) r q =
-    ap (λ x. (if r == c.row && q == c.column then gain_at least c else zero_ℚ) +ℚ x) (placed_gains least cells r q) ∙ gain_head (r == c.row && q == c.column) least c.one c.weight _ _
+    ap (λ x. (if r == c.row && q == c.column then cell_gain least c else zero_ℚ) +ℚ x) (placed_gains least cells r q) ∙ gain_head (r == c.row && q == c.column) least c.one c.weight _ _
 
 -- ---- the same gains make the same program
 module _ (rows columns : Side) (gain other : ℕ → ℕ → ℚ) (same : (r q : ℕ) → r < sequences rows → q < sequences columns → gain r q ≡ other r q) where
@@ -74,11 +74,11 @@ module _ (f : FormData) (valid : IsFormData f) where
       let fits = subst (LeafFits f.first.sequences f.second.sequences) w.3 (valid.leaves_fit w.0 w.1 w.2) in
       (subst (λ n. n < f.first.sequences) w.4.0 fits.row_within, subst (λ n. n < f.second.sequences) w.4.1 fits.column_within)
 
-  pub gains_are : (numbers matrix : List ℚ) → numbers ≡ map (gain_at f.least_one) f.cells → HoldsNumbers f.first.sequences f.second.sequences (placed f.cells numbers) matrix → (r q : ℕ) → r < sequences (side_of f.first) → q < sequences (side_of f.second) → number_at matrix (sequences (side_of f.second)) r q ≡ gains (form f) f.least_one r q
+  pub gains_are : (numbers matrix : List ℚ) → numbers ≡ map (cell_gain f.least_one) f.cells → HoldsNumbers f.first.sequences f.second.sequences (placed f.cells numbers) matrix → (r q : ℕ) → r < sequences (side_of f.first) → q < sequences (side_of f.second) → number_at matrix (sequences (side_of f.second)) r q ≡ gains (form f) f.least_one r q
   gains_are numbers matrix e holds r q hr hq =
       ap (λ n. get_or matrix (r * n + q) zero_ℚ) (sym second_count) ∙ holds r q (subst (λ n. r < n) (sym first_count) hr) (subst (λ n. q < n) (sym second_count) hq) ∙ ap (λ xs. listed_at (placed f.cells xs) r q) e ∙ placed_gains f.least_one f.cells r q
 
-  pub system_has_gains : (numbers matrix : List ℚ) (s : LinearSystem) → numbers ≡ map (gain_at f.least_one) f.cells → HoldsNumbers f.first.sequences f.second.sequences (placed f.cells numbers) matrix → IsSystemFor f.first f.second (number_at matrix (sequences (side_of f.second))) s → IsSystemOf f s
+  pub system_has_gains : (numbers matrix : List ℚ) (s : LinearSystem) → numbers ≡ map (cell_gain f.least_one) f.cells → HoldsNumbers f.first.sequences f.second.sequences (placed f.cells numbers) matrix → IsSystemFor f.first f.second (number_at matrix (sequences (side_of f.second))) s → IsSystemOf f s
   system_has_gains numbers matrix s e holds w =
       record {
         valid = w.valid;
@@ -97,7 +97,7 @@ module _ (f : FormData) (valid : IsFormData f) (cells : List Cell) (x y : ℕ) (
   pub inside_read : All (IsInside x y) cells
   inside_read = subst (λ xs. All (IsInside x y) xs) (sym ec) (subst₂ (λ a b. All (IsInside a b) f.cells) (sym ex) (sym ey) (cells_inside f valid))
 
-  pub system_read : {R : Type 0} (r : Result LinearSystem R) (first second : SideData) (numbers matrix seen : List ℚ) → first ≡ f.first → second ≡ f.second → seen ≡ matrix → numbers ≡ map (gain_at f.least_one) f.cells → HoldsNumbers x y (placed cells numbers) matrix
+  pub system_read : {R : Type 0} (r : Result LinearSystem R) (first second : SideData) (numbers matrix seen : List ℚ) → first ≡ f.first → second ≡ f.second → seen ≡ matrix → numbers ≡ map (cell_gain f.least_one) f.cells → HoldsNumbers x y (placed cells numbers) matrix
       → IfOk r (IsSystemFor first second (number_at seen (sequences (side_of second)))) → IfOk r (IsSystemOf f)
   system_read r first second numbers matrix seen e g h n holds w =
       let held : HoldsNumbers f.first.sequences f.second.sequences (placed f.cells numbers) matrix = subst₂ (λ a b. HoldsNumbers a b (placed f.cells numbers) matrix) ex ey (subst (λ xs. HoldsNumbers x y (placed xs numbers) matrix) ec holds) in

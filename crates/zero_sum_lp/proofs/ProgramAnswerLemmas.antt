@@ -16,7 +16,7 @@ use Rattle.sequence_data.specs.Data.{FormData, form, side_of}
 use Rattle.zero_sum_lp.specs.declared.stop.LpStop.TheVariants as stops
 use Rattle.zero_sum_lp.specs.declared.stop.NotConstant.{NotConstant}
 use Rattle.sequence_data.specs.Sizes.{form_sizes, program_size}
-use Rattle.zero_sum_lp.specs.FormPrograms.{AreFirstApart, IsSystemOf, ProgramsAreSingle, gain_steps, gains_in, is_constant, form_start_in, sum_at, sum_steps, sums_in, told_start, with_start}
+use Rattle.zero_sum_lp.specs.FormPrograms.{AreFirstApart, IsSystemOf, ProgramsAreSingle, gain_steps, gains_in, is_constant, form_start_in, sum_at, leaf_sum_steps, sums_in, told_start, with_start}
 
 -- ---- the sums
 heads_same : (x y : Leaf) (xs ys : List Leaf) → x ∷ xs ≡ y ∷ ys → x ≡ y
@@ -63,7 +63,7 @@ programs_single f =
     let numbers = gains_in f.least_one f.cells in
     let size = refused_by stops.TooLarge (within what.Rows most_rows (program_size (form_sizes f))) in
     bind-single size (λ _. sums_in f.leaves >> (constant >> (numbers >> form_start_in f))) (refused_by-single stops.TooLarge _ (refuse_where-single (most_rows < program_size (form_sizes f)) (too_large what.Rows most_rows (program_size (form_sizes f)))))
-    (λ _ _. bind-single (sums_in f.leaves) (λ _. constant >> (numbers >> form_start_in f)) (refused_by-single (λ stop. stops.SumRange stop.0.place stop.1) _ (all_fit-single sum_steps f.leaves))
+    (λ _ _. bind-single (sums_in f.leaves) (λ _. constant >> (numbers >> form_start_in f)) (refused_by-single (λ stop. stops.SumRange stop.0.place stop.1) _ (all_fit-single leaf_sum_steps f.leaves))
     (λ _ _. bind-single constant (λ _. numbers >> form_start_in f) (refused_by-single stops.NotConstant _ (is_constant-single f.leaves))
     (λ _ _. bind-single numbers (λ _. form_start_in f) (refused_by-single (λ stop. stops.GainRange stop.0.row stop.0.column stop.1) _ (all_fit-single (gain_steps f.least_one) f.cells))
     (λ _ _. form_start_in-single f))))

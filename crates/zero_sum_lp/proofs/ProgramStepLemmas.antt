@@ -11,16 +11,16 @@ use Rattle.frac128.proofs.StepRunLemmas.{one-fits, subtracted-gives, following-g
 use Rattle.sequence_data.specs.declared.types.Cell.{Cell}
 use Rattle.sequence_data.specs.declared.types.Leaf.{Leaf}
 use Rattle.frac128.proofs.FirstUnfitLemmas.{split_here}
-use Rattle.zero_sum_lp.specs.FormPrograms.{gain_at, gain_steps, sum_at, AreFirstApart, is_constant}
+use Rattle.zero_sum_lp.specs.FormPrograms.{cell_gain, gain_steps, sum_at, AreFirstApart, is_constant}
 use Rattle.rational.proofs.Decide.{eq_ℚ-decides}
 use Rattle.rational.specs.Tests.{eq_ℚ}
 
 -- ---- a gain
 pub difference_gives : (least : ℚ) (c : Cell) (part : ℚ) (r : Result ℚ Step) → part ≡ least *ℚ c.weight → MulFits least c.weight
     → IfOk r (λ v. v ≡ c.one -ℚ part) → OnOk r (SubFits c.one part) → IfErr r (λ e. e ≡ step_of Sub c.one part) → OnErr r (SubFits c.one part → ⊥)
-    → StepsGive (gain_steps least c) (gain_at least c) r
+    → StepsGive (gain_steps least c) (cell_gain least c) r
 difference_gives least c part r is product value fits step refused =
-    following-gives (step_of Mul least c.weight ∷ []) (step_of Sub c.one (least *ℚ c.weight) ∷ []) (gain_at least c) r (one-fits (step_of Mul least c.weight) product)
+    following-gives (step_of Mul least c.weight ∷ []) (step_of Sub c.one (least *ℚ c.weight) ∷ []) (cell_gain least c) r (one-fits (step_of Mul least c.weight) product)
     (subst (λ p. StepsGive (step_of Sub c.one p ∷ []) (c.one -ℚ p) r) is (subtracted-gives c.one part r value fits step refused))
 
 -- ---- the sums

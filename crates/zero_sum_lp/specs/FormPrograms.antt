@@ -11,7 +11,7 @@ use Rattle.lex_tableau.specs.declared.tableau.StartStop.{StartStop}
 use Rattle.lex_tableau.specs.declared.tableau.StartStop.TheVariants as starts
 use Rattle.game_core.specs.Limits.{most_rows, within}
 use Rattle.game_core.specs.declared.too_large.What.TheVariants as what
-use Rattle.sequence_forms.specs.Prices.{gains}
+use Rattle.sequence_forms.specs.Prices.{gain_at, gains}
 use Rattle.sequence_data.specs.declared.types.Cell.{Cell}
 use Rattle.sequence_data.specs.declared.types.Leaf.{Leaf}
 use Rattle.sequence_data.specs.Data.{FormData, form}
@@ -29,12 +29,12 @@ abbrev pub sum_at : Leaf → ℚ
 sum_at l = l.one +ℚ l.two
 
 -- its step
-abbrev pub sum_steps : Leaf → List Step
-sum_steps l = step_of Add l.one l.two ∷ []
+abbrev pub leaf_sum_steps : Leaf → List Step
+leaf_sum_steps l = step_of Add l.one l.two ∷ []
 
 -- the sums of all leaves fit; or the first that does not, with its place
 abbrev pub sums_in : List Leaf → Answer LpStop (Unit {0})
-sums_in leaves = refused_by (λ stop. stops.SumRange stop.0.place stop.1) (all_fit sum_steps leaves)
+sums_in leaves = refused_by (λ stop. stops.SumRange stop.0.place stop.1) (all_fit leaf_sum_steps leaves)
 
 -- two leaves whose sums differ
 abbrev pub apart_at : Leaf → Leaf → NotConstant
@@ -62,11 +62,11 @@ is_constant leaves (Ok _) = All (λ l. All (λ k. sum_at k ≡ sum_at l) leaves)
 is_constant leaves (Err stop) = AreFirstApart leaves stop
 
 -- ---- the gains
--- the payoff of player 0 less the least payoff times the weight, the product first
-abbrev pub gain_at : ℚ → Cell → ℚ
-gain_at least c = c.one -ℚ (least *ℚ c.weight)
+-- the gain of player 0 at a cell
+abbrev pub cell_gain : ℚ → Cell → ℚ
+cell_gain least c = gain_at least c.weight c.one
 
--- its steps
+-- its steps: the product first
 abbrev pub gain_steps : ℚ → Cell → List Step
 gain_steps least c = step_of Mul least c.weight ∷ step_of Sub c.one (least *ℚ c.weight) ∷ []
 

@@ -4,7 +4,7 @@ ghost use Rattle.answers.specs.Answers.{Gives};
 ghost use Rattle.game_core.specs.Limits.{most_rows};
 ghost use Rattle.sequence_data.specs.Sizes.{form_sizes, program_size};
 ghost use Rattle.zero_sum_lp.specs.declared.stop.LpStop.TheVariants as lp_stops;
-ghost use Rattle.zero_sum_lp.specs.FormPrograms.{IsSystemOf, gain_at, program_in, form_start_in};
+ghost use Rattle.zero_sum_lp.specs.FormPrograms.{IsSystemOf, cell_gain, program_in, form_start_in};
 
 use crate::gains::gains;
 use crate::lp::Lp;
@@ -28,7 +28,7 @@ fn size(form: &SeqForm) -> u64
 // The system with the gains of the cells.
 fn system_of_form(alloc: Global, form: &SeqForm, gains: &[Frac]) -> Result<System, Memory>
     requires few { program_size (form_sizes form.now) ≤ most_rows }
-    requires gains { gains.now ≡ map (gain_at form.now.least_one) form.now.cells }
+    requires gains { gains.now ≡ map (cell_gain form.now.least_one) form.now.cells }
     ensures { IfOk result (IsSystemOf form.now) }
 {
     let rows = form.first().sequences() as usize;

@@ -16,7 +16,7 @@ pub fn optimal_plans_solve_trees()
     ensures { OptimalPlansSolveTrees }
 {}
 
-/// And so on a table.
+/// On a table they are an equilibrium, with its value and both guarantees.
 pub fn optimal_plans_solve_tables()
     ensures { OptimalPlansSolveTables }
 {}

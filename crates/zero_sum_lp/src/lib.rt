@@ -1,7 +1,7 @@
 //! The equilibrium of a constant-sum game by one linear program of two players' realisation plans.
 //!
-//! Callers may rely on: `program` and `Lp::solve` give the program and the end of its path, of which
-//! there is one each, and only one, in at most 2^n pivots for variables below n;
+//! Callers may rely on: `program` and `Lp::solve` give the program and the end of its path, of
+//! which there is one each, and only one, in at most 2^n pivots for variables below n;
 //! `optimal_plans_prove_the_value`.
 //! Definitions: `specs::Paths` has linear programs and the path of the simplex method, `Programs`
 //! the program of plans, `Systems` its rows, `Plans` plans made of raw weights, `FormPrograms` what
@@ -9,7 +9,8 @@
 //! Private words: `specs::PlanLists` and `EnteringColumns`, and the modules that make weights into
 //! plans.
 //! Lemmas for callers: `proofs::ProgramAnswerLemmas`, `PathEndLemmas` and `PlanAnswerLemmas`, that
-//! there is at most one of each.
+//! there is at most one of each; `AnsweredProgramLemmas`, `AnsweredPathLemmas` and
+//! `AnsweredPlanLemmas`, that there is one.
 //! A change here touches: what `lp` answers and refuses, and `lp_texts_are_solutions`.
 #![tactic(auto)]
 

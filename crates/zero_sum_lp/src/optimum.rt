@@ -56,8 +56,8 @@ fn raised(weights: Vec<Frac>, side: &Side) -> Result<Vec<Frac>, Unfit>
     Ok(weights)
 }
 
-// The raw weights, trimmed.
-fn lessened(weights: Vec<Frac>, side: &Side) -> Result<Vec<Frac>, Unfit>
+// The raw weights, once they are trimmed.
+fn trimmed(weights: Vec<Frac>, side: &Side) -> Result<Vec<Frac>, Unfit>
     requires side { IsSideData side.now }
     requires shape { length weights.items ≡ sequences (side_of side.now) }
     ensures { trimmed_in (side_of side.now) (entry_at weights.items)
@@ -161,7 +161,7 @@ impl Optimum {
             Err(unfit) => return Err(PlanStop::Range { player: 0, unfit }),
         };
         let raw = self.raw_two(alloc)?;
-        match lessened(raw, &self.second) {
+        match trimmed(raw, &self.second) {
             Ok(two) => Ok(Plans::new(one, two)),
             Err(unfit) => Err(PlanStop::Range { player: 1, unfit }),
         }

@@ -15,7 +15,7 @@ use lex_tableau::{System, numbered};
 use sequence_data::{Side, set_entry};
 use std::alloc::Global;
 
-// A row of the first player's plans.
+// The entry of a row of the first player's plans in a column.
 fn plan_entry(first: &Side, row: usize, column: usize) -> Frac
     requires side { IsSideData first.now }
     requires row { row ≤ length first.now.sets }
@@ -28,7 +28,7 @@ fn plan_entry(first: &Side, row: usize, column: usize) -> Frac
     }
 }
 
-// The row of a sequence of the second player.
+// The entry of the row of a sequence of the second player in a column.
 fn reply_entry(first: &Side, second: &Side, gains: &[Frac], sequence: usize, column: usize) -> Frac
     requires first_side { IsSideData first.now }
     requires second_side { IsSideData second.now }
@@ -45,7 +45,7 @@ fn reply_entry(first: &Side, second: &Side, gains: &[Frac], sequence: usize, col
     }
 }
 
-// The objective row.
+// The entry of the objective row in a column.
 fn objective_entry(first: &Side, column: usize) -> Frac
     requires side { IsSideData first.now }
     ensures { result ≡ objective_cell (side_of first.now) column }

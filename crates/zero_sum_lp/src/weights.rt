@@ -1,4 +1,4 @@
-// Reads and writes of weights and sets.
+// Reads and writes of weights.
 ghost use Rattle.std.specs.Prelude.{◌≡◌, ◌≢◌, ◌<◌, ℕ, length};
 ghost use Rattle.rational.specs.Sum.{entry_at};
 

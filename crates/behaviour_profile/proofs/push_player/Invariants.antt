@@ -3,7 +3,7 @@ use Rattle.game_theory.specs.OwnSets.{own_sets}
 use Rattle.game_theory.specs.Behaviour.{pure}
 use Rattle.game_core.specs.TreeGame.{game_of_tree}
 use Rattle.behaviour_profile.specs.FirstActions.{first_for_none}
-use Rattle.behaviour_profile.proofs.BehaviourEntryLemmas.{entries_at}
+use Rattle.game_theory.specs.TreeEntries.{entries_at}
 use Rattle.behaviour_profile.proofs.push_player.Given as goal
 
 abbrev pub invariant-loop-place : goal.invariant-loop-place

@@ -55,37 +55,37 @@ pub next_level-requires-clause-entering : goal.next_level-requires-clause-enteri
 next_level-requires-clause-entering g c = λ _ _.
     subst (λ l. HaveEntering l c.args.next.now) (sym c.as_slice-2.ensures.value) (pivots_enter c.args.walk.now.level.items c.args.walk.now.known.items c.args.next.now c.requires.next)
 
-pub returns-in_err-level-clause-stop : goal.returns-in_err-level-clause-stop
-returns-in_err-level-clause-stop g c =
+pub returns-in_err-tableaux-clause-stop : goal.returns-in_err-tableaux-clause-stop
+returns-in_err-tableaux-clause-stop g c =
     let few = subst (λ xs. length xs + length c.args.next.now ≤ most_bases) c.as_slice.ensures.value c.in_ok-known.ensures.few in
-    let p = err_from_is_err_and c.from_residual-in_err-level.result c.from_residual-in_err-level.ensures.1 in
-    rw (p.1, p.2) (level_stop c.args.system.now c.args.number c.args.walk.now c.args.next.now c.in_err-level.field-0.0 c.requires.walk c.requires.next c.requires.some few (subst (λ l. IsLevelStop l c.args.next.now c.args.number c.in_err-level.field-0.0) c.as_slice-2.ensures.value c.in_err-level.ensures.stop))
+    let p = err_from_is_err_and c.from_residual-in_err-tableaux.result c.from_residual-in_err-tableaux.ensures.1 in
+    rw (p.1, p.2) (level_stop c.args.system.now c.args.number c.args.walk.now c.args.next.now c.in_err-tableaux.field-0.0 c.requires.walk c.requires.next c.requires.some few (subst (λ l. IsLevelStop l c.args.next.now c.args.number c.in_err-tableaux.field-0.0) c.as_slice-2.ensures.value c.in_err-tableaux.ensures.stop))
 
 pub next_pivots-requires : goal.next_pivots-requires
 next_pivots-requires g c =
     let few : length c.args.walk.now.known.items + length c.args.next.now ≤ most_bases = subst (λ xs. length xs + length c.args.next.now ≤ most_bases) c.as_slice.ensures.value c.in_ok-known.ensures.few in
-    let size : length c.in_ok-level.level.items ≡ length c.args.next.now = c.in_ok-level.ensures.children.size in
-    let children = subst (λ l. AreChildren l c.args.next.now (length c.args.next.now) c.in_ok-level.level.items) c.as_slice-2.ensures.value c.in_ok-level.ensures.children in
+    let size : length c.in_ok-tableaux.field-0.tableaux.items ≡ length c.args.next.now = c.in_ok-tableaux.ensures.children.size in
+    let children = subst (λ l. AreChildren l c.args.next.now (length c.args.next.now) c.in_ok-tableaux.field-0.tableaux.items) c.as_slice-2.ensures.value c.in_ok-tableaux.ensures.children in
     let lead = pivots_lead c.args.system.now c.args.number c.args.walk.now c.args.next.now c.requires.enumerable c.requires.walk c.requires.next in
-    found_small c.in_ok-level.level.items c.as_slice-3.result.now c.in_ok-level.found.items
-    (children_ready c.args.system.now c.args.walk.now.level.items c.in_ok-level.level.items c.args.next.now lead children) (omega arith) c.in_ok-level.ensures.found
+    found_small c.in_ok-tableaux.field-0.tableaux.items c.as_slice-3.result.now c.in_ok-tableaux.field-0.found.items
+    (children_ready c.args.system.now c.args.walk.now.level.items c.in_ok-tableaux.field-0.tableaux.items c.args.next.now lead children) (omega arith) c.in_ok-tableaux.ensures.found
 
 pub returns-clause-next : goal.returns-clause-next
 returns-clause-next g c =
     let few : length c.args.walk.now.known.items + length c.args.next.now ≤ most_bases = subst (λ xs. length xs + length c.args.next.now ≤ most_bases) c.as_slice.ensures.value c.in_ok-known.ensures.few in
-    let size : length c.in_ok-level.level.items ≡ length c.args.next.now = c.in_ok-level.ensures.children.size in
-    let children = subst (λ l. AreChildren l c.args.next.now (length c.args.next.now) c.in_ok-level.level.items) c.as_slice-2.ensures.value c.in_ok-level.ensures.children in
+    let size : length c.in_ok-tableaux.field-0.tableaux.items ≡ length c.args.next.now = c.in_ok-tableaux.ensures.children.size in
+    let children = subst (λ l. AreChildren l c.args.next.now (length c.args.next.now) c.in_ok-tableaux.field-0.tableaux.items) c.as_slice-2.ensures.value c.in_ok-tableaux.ensures.children in
     let lead = pivots_lead c.args.system.now c.args.number c.args.walk.now c.args.next.now c.requires.enumerable c.requires.walk c.requires.next in
     rw (c.replace.ensures.after)
-    (subst (λ known. AreNewPivots c.in_ok-level.level.items known c.next_pivots.result.items) c.as_slice-3.ensures.value
-    (new_pivots_are c.in_ok-level.level.items c.as_slice-3.result.now c.in_ok-level.found.items c.next_pivots.result.items
-    (children_ready c.args.system.now c.args.walk.now.level.items c.in_ok-level.level.items c.args.next.now lead children) (omega arith) c.in_ok-level.ensures.found c.next_pivots.ensures))
+    (subst (λ known. AreNewPivots c.in_ok-tableaux.field-0.tableaux.items known c.next_pivots.result.items) c.as_slice-3.ensures.value
+    (new_pivots_are c.in_ok-tableaux.field-0.tableaux.items c.as_slice-3.result.now c.in_ok-tableaux.field-0.found.items c.next_pivots.result.items
+    (children_ready c.args.system.now c.args.walk.now.level.items c.in_ok-tableaux.field-0.tableaux.items c.args.next.now lead children) (omega arith) c.in_ok-tableaux.ensures.found c.next_pivots.ensures))
 
 pub returns-clause-walk : goal.returns-clause-walk
 returns-clause-walk g c =
     let few = subst (λ xs. length xs + length c.args.next.now ≤ most_bases) c.as_slice.ensures.value c.in_ok-known.ensures.few in
-    let children = subst (λ l. AreChildren l c.args.next.now (length c.args.next.now) c.in_ok-level.level.items) c.as_slice-2.ensures.value c.in_ok-level.ensures.children in
+    let children = subst (λ l. AreChildren l c.args.next.now (length c.args.next.now) c.in_ok-tableaux.field-0.tableaux.items) c.as_slice-2.ensures.value c.in_ok-tableaux.ensures.children in
     let merged = subst (λ xs. IsMerged xs (map target_of c.args.next.now) c.in_ok-known.known.items) c.as_slice.ensures.value c.in_ok-known.ensures.merged in
     rw (c.replace.ensures.after)
-    (walk_next c.args.system.now c.args.number c.args.walk.now (record { level = c.in_ok-level.level; known = c.in_ok-known.known; vertices = c.next_level.new.vertices; spent = c.add.new.self }) c.args.next.now (map target_of c.args.next.now)
-    c.requires.enumerable c.requires.walk c.requires.next c.requires.some few children refl merged c.in_ok-level.ensures.vertices)
+    (walk_next c.args.system.now c.args.number c.args.walk.now (record { level = c.in_ok-tableaux.field-0.tableaux; known = c.in_ok-known.known; vertices = c.next_level.new.vertices; spent = c.add.new.self }) c.args.next.now (map target_of c.args.next.now)
+    c.requires.enumerable c.requires.walk c.requires.next c.requires.some few children refl merged c.in_ok-tableaux.ensures.vertices)

@@ -27,7 +27,7 @@ found_from-requires-clause-basis g c = c.basis-basis.ensures ∙ ap basis_of c.n
 
 pub found_from-requires-clause-known : goal.found_from-requires-clause-known
 found_from-requires-clause-known g c =
-    subst IsStrictlyIncreasing (sym (c.as_slice.ensures.value ∙ c.in_ok-known.ensures)) (λ k h. absurd (omega arith))
+    subst IsStrictlyIncreasing (sym (c.as_slice.ensures.value ∙ c.in_ok-known.ensures.items)) (λ k h. absurd (omega arith))
 
 pub next_pivots-next-requires : goal.next_pivots-next-requires
 next_pivots-next-requires g c =
@@ -41,8 +41,8 @@ pub returns-clause-walk : goal.returns-clause-walk
 returns-clause-walk g c =
     let vertices : c.add_vertex.new.vertices.items ≡ option_to_list c.in_ok-findings.findings.vertex = ◌∙◌ {A = List Vertex} c.in_ok-add_vertex.ensures (ap (λ xs. xs ++ option_to_list c.in_ok-findings.findings.vertex) c.new-vertices.ensures.items) in
     walk_start c.args.system.now c.in_ok-tableau.tableau (record { level = c.in_ok-level.level; known = c.in_ok-known.known; vertices = c.add_vertex.new.vertices; spent = c.in_ok-new.field-0 }) c.in_ok-findings.findings.vertex c.nonbasics.ensures.valid c.in_ok-tableau.ensures
-    c.in_ok-level.ensures
-    (c.in_ok-known.ensures ∙ ap (λ b. b ∷ []) (c.basis-basis.ensures ∙ ap basis_of c.nonbasics.ensures.value))
+    c.in_ok-level.ensures.items
+    (c.in_ok-known.ensures.items ∙ ap (λ b. b ∷ []) (c.basis-basis.ensures ∙ ap basis_of c.nonbasics.ensures.value))
     vertices
     c.in_ok-findings.ensures.vertex
 
@@ -51,6 +51,6 @@ returns-clause-next g c =
     let s = c.args.system.now in
     let t = c.in_ok-tableau.tableau in
     let ready = first_ready s t c.nonbasics.ensures.valid c.requires.enumerable c.in_ok-tableau.ensures.2 in
-    subst₂ (λ level known. AreNewPivots level known c.next_pivots-next.result.items) (sym c.in_ok-level.ensures) c.as_slice.ensures.value
+    subst₂ (λ level known. AreNewPivots level known c.next_pivots-next.result.items) (sym c.in_ok-level.ensures.items) c.as_slice.ensures.value
     (new_pivots_are (t ∷ []) c.as_slice.result.now c.in_ok-findings.findings.found.items c.next_pivots-next.result.items (first_all_ready t ready) (omega arith)
     (first_found t c.as_slice.result.now c.in_ok-findings.findings.found.items c.in_ok-findings.ensures.found) c.next_pivots-next.ensures)

@@ -3,7 +3,8 @@ use Rattle.std.proofs.lemmas.List.{length-map}
 use Rattle.game_theory.specs.OwnSets.{own_sets}
 use Rattle.game_core.specs.TreeGame.{game_of_tree}
 use Rattle.behaviour_profile.specs.ListedBehaviour.{listed_behaviour}
-use Rattle.behaviour_profile.proofs.BehaviourEntryLemmas.{entries_at, entries_at-push, own_set-below, own_set-read, own_sets-before}
+use Rattle.game_theory.specs.TreeEntries.{entries_at}
+use Rattle.behaviour_profile.proofs.BehaviourEntryLemmas.{entries_at-push, own_set-below, own_set-read, own_sets-before}
 use Rattle.behaviour_profile.proofs.ListedEntryLemmas.{listed-set}
 use Rattle.behaviour_profile.proofs.listed.push_lists.Goals as goal
 use Rattle.behaviour_profile.proofs.listed.push_lists.Goals.{In-loop-set}

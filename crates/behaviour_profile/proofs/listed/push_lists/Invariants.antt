@@ -2,7 +2,7 @@ use Rattle.std.proofs.Common.{◌≡◌, ◌++◌, map, take}
 use Rattle.game_theory.specs.OwnSets.{own_sets}
 use Rattle.game_core.specs.TreeGame.{game_of_tree}
 use Rattle.behaviour_profile.specs.ListedBehaviour.{listed_behaviour}
-use Rattle.behaviour_profile.proofs.BehaviourEntryLemmas.{entries_at}
+use Rattle.game_theory.specs.TreeEntries.{entries_at}
 use Rattle.behaviour_profile.proofs.listed.push_lists.Given as goal
 
 -- the probabilities at the sets so far are added

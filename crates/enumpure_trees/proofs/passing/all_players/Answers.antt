@@ -1,9 +1,7 @@
-use Rattle.std.proofs.Common.{ℕ, ◌∙◌, [], ◌∷◌, ◌++◌, sym, ap, add-one}
-use Rattle.std.specs.List.{range_with_len}
-use Rattle.lists.proofs.ElementLemmas.{range-last}
+use Rattle.std.proofs.Common.{Ok, length, refl, ap, arith}
+use Rattle.std.proofs.lemmas.Iterator.{items_from_collect, YieldsList-from_range}
 use Rattle.enumpure_trees.proofs.passing.all_players.Goals as goal
 
-pub loop-player-preserved : goal.loop-player-preserved
-loop-player-preserved c =
-    let k : ℕ = c.loop-player.player in
-    c.in_ok-push.ensures.items ∙ ap (λ v. v ++ k ∷ []) c.loop-player.invariant ∙ sym (range-last k) ∙ ap (range_with_len 0) (sym (add-one k))
+pub returns : goal.returns
+returns c =
+    items_from_collect {E = Unit {0}} (Ok c.in_ok-collect.field-0) c.in_ok-collect.ensures.ran (YieldsList-from_range 0 (length c.players.result.now) (length c.args.tree.now.players) refl (omega (arith, ap length c.players.ensures.players)))

@@ -1,6 +1,7 @@
 use Rattle.std.proofs.Common.{ℕ, Bool, true, false, List, Ok}
 use Rattle.answers.proofs.AnswerLemmas.{ok_same}
-use Rattle.game_core.specs.MadeTables.{made_game}
+use Rattle.game_core.specs.MadeTables.{made_table}
+use Rattle.game_core.specs.Table.{game_of}
 use Rattle.game_core.specs.declared.game.Game.{Game}
 use Rattle.game_core.specs.declared.game.Game.TheVariants.{Strategic, Extensive}
 use Rattle.game_core.specs.Tree.{GameTree}
@@ -36,6 +37,6 @@ returns c = record {
       (let read = h.2.2 in
       (read.0, read.1, verdicts-tell c.table_checks_tell_equilibria.ensures c.tree_checks_tell_equilibria.ensures strategic read.0 lines text (game_in-valid bytes read.0 read.1) read.2));
   make = λ number rows columns workers text h.
-      (let many = c.pairs_are_as_many_as_extreme_equilibria.ensures (made_game number rows columns) h.0 h.1 in
+      (let many = c.pairs_are_as_many_as_extreme_equilibria.ensures (game_of (made_table number rows columns)) h.0 h.1 in
       record { found = h.0; is_found = h.1; is_text = ok_same text (counts_text h.0) h.2; lines = many.0; are_extreme_equilibria = many.1; as_many = many.2 });
 }

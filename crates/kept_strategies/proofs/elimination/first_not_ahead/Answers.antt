@@ -4,17 +4,18 @@ use Rattle.std.proofs.lemmas.Bool.{cases_lt}
 use Rattle.std.proofs.lemmas.List.{get_or-drop, length-drop, take_rest}
 use Rattle.std.proofs.lemmas.List.Elements.{Contains-get_or}
 use Rattle.std.proofs.lemmas.List.Sorted.{IsPartitionPoint-from_clause, IsPartitionedBy-ltb}
+use Rattle.lists.proofs.AscendingNumberLemmas.{non_decreasing}
 use Rattle.rational.specs.Rational.{◌<ℚ◌}
 use Rattle.game_core.specs.Table.{game_of}
 use Rattle.kept_strategies.specs.Comparisons.{IsAheadAt, IsAheadBefore}
-use Rattle.kept_strategies.proofs.EliminationLemmas.{ahead-all, ahead-before, rises}
+use Rattle.kept_strategies.proofs.EliminationLemmas.{ahead-all, ahead-before}
 use Rattle.kept_strategies.proofs.elimination.first_not_ahead.Goals as goal
 use Rattle.kept_strategies.proofs.elimination.first_not_ahead.Goals.{After-partition_point-start}
 
 -- those before the start are known
 early : (c : After-partition_point-start) → (k : ℕ) → k < length c.args.others.now → (get_or c.args.others.now k 0 < c.args.from) ⊎ (c.partition_point-start.result ≤ k)
 early c k l =
-    let parted = IsPartitionedBy-ltb (λ x. x) c.args.others.now c.args.from (rises c.args.others.now c.requires.ascending) in
+    let parted = IsPartitionedBy-ltb (λ x. x) c.args.others.now c.args.from (non_decreasing c.args.others.now c.requires.ascending) in
     let point = IsPartitionPoint-from_clause (λ x. ltb x c.args.from) _ _ c.partition_point-start.ensures.partitioned parted (λ a r q h. search rules) in
     elim (cases_lt k c.partition_point-start.result) [ inl before ↦ inl (ltb-true _ _ (point.0 k 0 (omega arith) (omega arith))) | inr after ↦ inr (omega (arith, after)) ]
 

@@ -4,14 +4,14 @@ use Rattle.std.proofs.lemmas.List.Elements.{All-append}
 use Rattle.std.proofs.lemmas.Result.{err_from_is_err_and}
 use Rattle.rational.specs.Rational.{◌*ℚ◌, inv_ℚ, zero_ℚ}
 use Rattle.rational.proofs.InverseLemmas.{ne_zero_of_pos}
-use Rattle.frac128.specs.Steps.{DivFits, step_of, StepFits}
+use Rattle.frac128.specs.Steps.{DivFits, step_of, StepFits, sum_steps}
 use Rattle.frac128.specs.declared.steps.Op.TheVariants.{Div}
 use Rattle.game_theory.specs.Lines.{listed}
 use Rattle.game_theory.proofs.EntryLemmas.{listed-push}
 use Rattle.frac128.proofs.StepRunLemmas.{first_unfit-more, first_unfit-following}
 use Rattle.extreme_equilibria.specs.Polytopes.{scaled}
 use Rattle.extreme_equilibria.proofs.PositiveNumberLemmas.{sum-pos}
-use Rattle.label_pairing.specs.Scaling.{division, sum_steps}
+use Rattle.label_pairing.specs.Scaling.{division}
 use Rattle.rational.specs.Sum.{entry_at}
 use Rattle.frac128.proofs.StepListLemmas.{fits-next, unfit-first, fits-all}
 use Rattle.label_pairing.proofs.scaling.scaled.Goals as goal
@@ -25,12 +25,12 @@ returns-in_err-div c =
     let p = c.args.point.now in
     let read : c.entry-item.result ≡ entry_at p c.loop-entry.entry-index = c.entry-item.is ∙ get_or_default p c.loop-entry.entry-index c.entry-item.result zero_ℚ c.loop-entry-test.true in
     let stop = err_from_is_err_and c.from_residual-in_err-div.result c.from_residual-in_err-div.ensures.1 in
-    rw (stop.1, stop.2) (inr (inl (c.in_err-div.field-0.0, first_unfit-following (sum_steps p) _ c.in_err-div.field-0.0 c.in_ok-sum.ensures.1 (unfit-first (division p) (length p) c.loop-entry.entry-index c.loop-entry-test.true c.in_err-div.field-0.0 c.loop-entry.invariant.fits (λ f. c.in_err-div.ensures.unfit (subst₂ DivFits (sym read) (sym c.in_ok-sum.ensures.0) f)) (c.in_err-div.ensures.step ∙ ap₂ (λ x y. step_of Div x y) read c.in_ok-sum.ensures.0)), refl)))
+    rw (stop.1, stop.2) (inr (inl (c.in_err-div.field-0.0, first_unfit-following (sum_steps (length p) (entry_at p) (λ _. [])) _ c.in_err-div.field-0.0 c.in_ok-sum.ensures.1 (unfit-first (division p) (length p) c.loop-entry.entry-index c.loop-entry-test.true c.in_err-div.field-0.0 c.loop-entry.invariant.fits (λ f. c.in_err-div.ensures.unfit (subst₂ DivFits (sym read) (sym c.in_ok-sum.ensures.0) f)) (c.in_err-div.ensures.step ∙ ap₂ (λ x y. step_of Div x y) read c.in_ok-sum.ensures.0)), refl)))
 
 pub returns-in_err-sum : goal.returns-in_err-sum
 returns-in_err-sum c =
     let stop = err_from_is_err_and c.from_residual.result c.from_residual.ensures.1 in
-    rw (stop.1, stop.2) (inr (inl (c.in_err-sum.field-0.0, first_unfit-more (sum_steps c.args.point.now) _ c.in_err-sum.field-0.0 c.in_err-sum.ensures, refl)))
+    rw (stop.1, stop.2) (inr (inl (c.in_err-sum.field-0.0, first_unfit-more (sum_steps (length c.args.point.now) (entry_at c.args.point.now) (λ _. [])) _ c.in_err-sum.field-0.0 c.in_err-sum.ensures, refl)))
 
 pub loop-entry-preserved : goal.loop-entry-preserved
 loop-entry-preserved c =
@@ -45,4 +45,4 @@ pub returns : goal.returns
 returns c =
     let p = c.args.point.now in
     let end : c.loop-entry.entry-index ≡ length p = omega arith in
-    (tt, All-append StepFits (sum_steps p) _ c.in_ok-sum.ensures.1 (fits-all (division p) (length p) c.loop-entry.entry-index c.loop-entry-test.false c.loop-entry.invariant.fits), ap Ok (c.loop-entry.invariant.value ∙ ap (λ n. listed n (scaled (length p) (entry_at p))) end))
+    (tt, All-append StepFits (sum_steps (length p) (entry_at p) (λ _. [])) _ c.in_ok-sum.ensures.1 (fits-all (division p) (length p) c.loop-entry.entry-index c.loop-entry-test.false c.loop-entry.invariant.fits), ap Ok (c.loop-entry.invariant.value ∙ ap (λ n. listed n (scaled (length p) (entry_at p))) end))

@@ -17,14 +17,14 @@ other_member-requires-clause-within c = λ j l.
     let here = members.are_nodes j l in
     omega (arith, here.0, c.requires.length)
 
-pub returns-in_default-clause-player : goal.returns-in_default-clause-player
-returns-in_default-clause-player c =
+pub returns-in_err-second_node-clause-player : goal.returns-in_err-second_node-clause-player
+returns-in_err-second_node-clause-player c =
     let found = members-at c.args.tree.now c.sets.result.now c.args.number c.index-sets-number.result c.sets.ensures.valid c.sets.ensures.sets c.requires.set c.index-sets-number.is in
     let members = subst (AreMembers (game_of_tree c.args.tree.now) c.args.number) (sym c.members-members.ensures) found.1 in
-    alike (game_of_tree c.args.tree.now) c.args.player c.args.number c.members-members.result.now c.args.edges.now c.stands_for_game_tree.ensures.game c.stands_for_game_tree.ensures.numbered c.requires.own c.requires.earlier members c.requires.length c.requires.edges c.in_default.ensures
+    rw c.from_residual.ensures (alike (game_of_tree c.args.tree.now) c.args.player c.args.number c.members-members.result.now c.args.edges.now c.stands_for_game_tree.ensures.game c.stands_for_game_tree.ensures.numbered c.requires.own c.requires.earlier members c.requires.length c.requires.edges c.in_err-second_node.ensures)
 
-pub returns-in_default-clause-forgets : goal.returns-in_default-clause-forgets
-returns-in_default-clause-forgets c = returns-in_default-clause-player c
+pub returns-in_err-second_node-clause-forgets : goal.returns-in_err-second_node-clause-forgets
+returns-in_err-second_node-clause-forgets c = rw c.from_residual.ensures (rw c.from_residual.ensures at (returns-in_err-second_node-clause-player c))
 
 pub returns-clause-forgets : goal.returns-clause-forgets
 returns-clause-forgets c =
@@ -39,5 +39,5 @@ returns-clause-forgets c =
       sets_before = c.requires.earlier;
       label_is = c.label.ensures;
       first_is = first_member g c.args.number c.members-members.result.now members;
-      second_is = first_other g c.args.player c.args.number c.members-members.result.now c.args.edges.now c.stands_for_game_tree.ensures.game c.stands_for_game_tree.ensures.numbered c.requires.own c.requires.earlier members c.requires.length c.requires.edges c.in-Some.second_node c.in-Some.ensures;
+      second_is = first_other g c.args.player c.args.number c.members-members.result.now c.args.edges.now c.stands_for_game_tree.ensures.game c.stands_for_game_tree.ensures.numbered c.requires.own c.requires.earlier members c.requires.length c.requires.edges c.in_ok-second_node.second_node c.in_ok-second_node.ensures;
     }

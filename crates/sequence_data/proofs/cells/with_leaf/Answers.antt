@@ -1,8 +1,7 @@
 use Rattle.std.proofs.Common.{List, [], ◌∷◌, ◌++◌, Ok, Err}
 use Rattle.std.proofs.lemmas.Result.{err_from_is_err_and}
-use Rattle.frac128.specs.Steps.{step_of, Step}
+use Rattle.frac128.specs.Steps.{step_of, Step, added_product_steps}
 use Rattle.frac128.specs.declared.steps.Op.TheVariants.{Add}
-use Rattle.sequence_data.specs.Steps.{added_product_steps}
 use Rattle.sequence_data.specs.declared.types.Cell.{Cell}
 use Rattle.sequence_data.specs.declared.types.Leaf.{Leaf}
 use Rattle.sequence_data.proofs.StepStageLemmas.{fit_at-following, fit_at-more}

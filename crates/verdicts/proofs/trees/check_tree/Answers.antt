@@ -3,7 +3,7 @@ use Rattle.std.proofs.lemmas.Bool.{cases_eq}
 use Rattle.game_core.specs.TreeGame.{game_of_tree}
 use Rattle.best_replies.proofs.DecisionOrderLemmas.{best_choices-exist}
 use Rattle.best_replies.proofs.SetOrderLemmas.{sets-ascend_on_paths}
-use Rattle.verdicts.specs.TreeVerdicts.{HasNoBetter}
+use Rattle.verdicts.specs.TreeVerdicts.{PassesTree}
 use Rattle.verdicts.proofs.FoundReplyLemmas.{none-better, one-better}
 use Rattle.verdicts.proofs.trees.check_tree.Goals as goal
 
@@ -48,7 +48,7 @@ loop-player-preserved c = (
       let best = best_choices-exist t b i valid.game ascend in
       let found = c.in-Ok.ensures.gives b best.0 (c.entries-entries.ensures ∙ is) ascend best.1 in
       elim (cases_eq j i) [
-        | inl same ↦ subst (HasNoBetter t b) (sym same) (none-better t b i best.0 _ _ best.1 found.0 found.1 found.2 (λ lt. cc (c.is_less.ensures.1 lt, c.if-is_less.false)))
+        | inl same ↦ subst (PassesTree t b) (sym same) (none-better t b i best.0 _ _ best.1 found.0 found.1 found.2 (λ lt. cc (c.is_less.ensures.1 lt, c.if-is_less.false)))
         | inr apart ↦ c.loop-player.invariant.2 b is j (omega arith)
       ],
 )

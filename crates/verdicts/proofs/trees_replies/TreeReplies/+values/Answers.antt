@@ -7,7 +7,7 @@ use Rattle.pure_payoffs.proofs.PlaceLemmas.{child-found}
 use Rattle.verdicts.specs.TreeReplies.{game_at}
 use Rattle.verdicts.proofs.TreeReplyStepLemmas.{own-gives, other-gives, reply-after_refused, reply-product_refused, reply-added}
 use Rattle.verdicts.proofs.TreeReplyPartLemmas.{own_sets-child, chosen-within, chosen-known}
-use Rattle.verdicts.proofs.TreeSumLemmas.{sum-more, number-refused, addition-refused}
+use Rattle.frac128.proofs.SumStepLemmas.{sum-more, number-refused, addition-refused}
 use Rattle.verdicts.proofs.trees_replies.TreeReplies.+values.Goals as goal
 
 pub children_sum-value-requires : goal.children_sum-value-requires

@@ -2,9 +2,9 @@ use Rattle.std.proofs.Common.{◌≡◌, ◌+◌, ◌-◌, ◌*◌, ℕ, All, le
 use Rattle.rational.specs.Sum.{sum_to}
 use Rattle.game_theory.specs.Behaviour.{Behaviour}
 use Rattle.game_theory.specs.Children.{child}
-use Rattle.frac128.specs.Steps.{StepFits}
+use Rattle.frac128.specs.Steps.{StepFits, sum_steps}
 use Rattle.verdicts.specs.TreeReplies.{AreDecided, OwnSetsFrom, game_at}
-use Rattle.verdicts.specs.TreeSteps.{child_value, reply_steps, sum_steps}
+use Rattle.verdicts.specs.TreeSteps.{child_value, reply_steps}
 use Rattle.verdicts.proofs.trees_replies.TreeReplies.+values.Given as goal
 
 -- three times the number of nodes from this one on, and more for each call at the node

@@ -5,7 +5,7 @@ use Rattle.pure_payoffs.proofs.PlaceLemmas.{child-read, child-found}
 use Rattle.perfect_recall.proofs.MemberLemmas.{AreMembers}
 use Rattle.verdicts.specs.TreeReplies.{game_at}
 use Rattle.verdicts.proofs.TreeMemberLemmas.{decided-fewer, later-sets, listed-are, listed-at, listed-child, summed-more, summed-all}
-use Rattle.verdicts.proofs.TreeSumLemmas.{number-refused, addition-refused}
+use Rattle.frac128.proofs.SumStepLemmas.{number-refused, addition-refused}
 use Rattle.verdicts.proofs.trees_replies.TreeReplies.action_value.Goals as goal
 
 pub bounds-self-member : goal.bounds-self-member

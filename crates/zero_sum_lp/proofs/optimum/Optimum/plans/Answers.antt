@@ -7,21 +7,21 @@ pub returns-in-Err : goal.returns-in-Err
 returns-in-Err c =
     inr (inl (c.in-Err.unfit, first_answer c.args.self.now c.self.inside.first c.in_ok-raw.raw.items c.self.invariant.0.first (Err c.in-Err.unfit) (ap (λ (p : Program). p.first) c.self.view_is) c.in_ok-raw.ensures c.in-Err.ensures, refl))
 
-pub returns-in-Ok-lessened : goal.returns-in-Ok-lessened
-returns-in-Ok-lessened c = (
+pub returns-in-Ok-trimmed : goal.returns-in-Ok-trimmed
+returns-in-Ok-trimmed c = (
   c.in-Ok.one.items,
   first_answer c.args.self.now c.self.inside.first c.in_ok-raw.raw.items c.self.invariant.0.first (Ok c.in-Ok.one.items) (ap (λ (p : Program). p.first) c.self.view_is) c.in_ok-raw.ensures c.in-Ok.ensures,
   (
-    c.in-Ok-lessened.two.items,
-    second_answer c.args.self.now c.self.inside.second c.in_ok-raw-2.raw.items c.self.invariant.0.second (Ok c.in-Ok-lessened.two.items) (ap (λ (p : Program). p.second) c.self.view_is) c.in_ok-raw-2.ensures c.in-Ok-lessened.ensures,
+    c.in-Ok-trimmed.two.items,
+    second_answer c.args.self.now c.self.inside.second c.in_ok-raw-2.raw.items c.self.invariant.0.second (Ok c.in-Ok-trimmed.two.items) (ap (λ (p : Program). p.second) c.self.view_is) c.in_ok-raw-2.ensures c.in-Ok-trimmed.ensures,
     ap Ok c.new.ensures,
   ),
 )
 
-pub returns-in-Err-lessened : goal.returns-in-Err-lessened
-returns-in-Err-lessened c =
+pub returns-in-Err-trimmed : goal.returns-in-Err-trimmed
+returns-in-Err-trimmed c =
     inr (inr (
       c.in-Ok.one.items,
       first_answer c.args.self.now c.self.inside.first c.in_ok-raw.raw.items c.self.invariant.0.first (Ok c.in-Ok.one.items) (ap (λ (p : Program). p.first) c.self.view_is) c.in_ok-raw.ensures c.in-Ok.ensures,
-      inl (c.in-Err-lessened.unfit, second_answer c.args.self.now c.self.inside.second c.in_ok-raw-2.raw.items c.self.invariant.0.second (Err c.in-Err-lessened.unfit) (ap (λ (p : Program). p.second) c.self.view_is) c.in_ok-raw-2.ensures c.in-Err-lessened.ensures, refl),
+      inl (c.in-Err-trimmed.unfit, second_answer c.args.self.now c.self.inside.second c.in_ok-raw-2.raw.items c.self.invariant.0.second (Err c.in-Err-trimmed.unfit) (ap (λ (p : Program). p.second) c.self.view_is) c.in_ok-raw-2.ensures c.in-Err-trimmed.ensures, refl),
     ))

@@ -5,11 +5,10 @@ use Rattle.lists.proofs.ElementLemmas.{made-same}
 use Rattle.rational.specs.Rational.{ℚ, ◌+ℚ◌}
 use Rattle.rational.specs.Sum.{sum_to}
 use Rattle.rational.proofs.SumLemmas.{sum_to-same}
-use Rattle.frac128.specs.Steps.{AddFits, step_of, Step, StepFits, IsFirstUnfit}
+use Rattle.frac128.specs.Steps.{AddFits, step_of, Step, StepFits, IsFirstUnfit, sum_steps}
 use Rattle.frac128.specs.declared.steps.Op.TheVariants.{Add}
 use Rattle.frac128.proofs.StepPartLemmas.{parts-more, part-refused}
 use Rattle.frac128.proofs.StepRunLemmas.{first_unfit-more, first_unfit-following, first_unfit-here, one-fits}
-use Rattle.verdicts.specs.TreeSteps.{sum_steps}
 
 -- the steps of one number, and its addition
 abbrev steps_at : (ℕ → ℚ) → (ℕ → List Step) → ℕ → List Step

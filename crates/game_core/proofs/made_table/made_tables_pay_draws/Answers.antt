@@ -1,5 +1,5 @@
 use Rattle.game_core.proofs.GameLemmas.{pays_draws}
-use Rattle.game_core.proofs.made_table.made_games_pay_draws.Goals as goal
+use Rattle.game_core.proofs.made_table.made_tables_pay_draws.Goals as goal
 
 pub returns : goal.returns
 returns c = pays_draws
