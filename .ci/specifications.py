@@ -11,7 +11,8 @@ from pathlib import Path
 CONSTRUCTORS = set("zero suc pos negsuc true false None Some Ok Err tt refl ∷ []".split())
 BUILT_IN = set("Type → × λ : = ← ↦ ∷ ⊥ ⊤ Unit ¬ _ do record elim let in where".split())
 HEADER = re.compile(r"(?:(?:abbrev|unfoldable) )?(?:pub )?(record |data )?([^\s:({]+)((?: [({].*?[)}])*) : ")
-BROKEN_HEADER = re.compile(r"^((?:abbrev|unfoldable|pub) [^\n]*)\n    (?=: |\([^\n]*where$)", re.M)
+# The lines of a header that goes on below: of a record up to its word where, of others up to their colon.
+BROKEN_HEADER = re.compile(r"^(pub record [^\n]*(?:\n    [^\n]*)*? where$|(?:abbrev|unfoldable|pub) [^\n]*\n    : )", re.M)
 FIELD = re.compile(r"  (?:pub )?([^\s(){}:]+(?: [^\s(){}:]+)*) :(?= |$)", re.M)
 FACT = re.compile(r"(?:: |→ )(?:T \(|[^→]* ≡ )[^→]*$")
 IMPORT = re.compile(r"\buse ([\w.]+?)(?:\.\{([^}]*)\}| as ([\w']+))")
@@ -66,7 +67,7 @@ def module(module_name):
     path = path_of(module_name)
     if path is None:
         return None
-    text = BROKEN_HEADER.sub(r"\1 ", path.read_text(encoding="utf-8"))
+    text = BROKEN_HEADER.sub(lambda header: re.sub(r"\n +", " ", header[1]), path.read_text(encoding="utf-8"))
     lines = [line for line in text.split("\n") if not line.lstrip().startswith("--")]
     imports, aliases = imports_in("\n".join(line for line in lines if line.startswith(("use ", "pub use "))))
     lines = [line for line in lines if not line.startswith(("use ", "pub use ", "pub mod ", "infix", "unfolding "))]

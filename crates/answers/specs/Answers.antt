@@ -1,5 +1,6 @@
--- What a computation in stages may answer. A stage is a relation between its input and its answer: a value, or why it is refused.
--- Stages one after another are a monad. Source: Wadler 1995, "Monads for functional programming".
+-- What a computation in stages may answer. A stage is a relation between its input and its answer:
+-- a value, or why it is refused. Stages one after another are a monad. Source: Wadler 1995, "Monads
+-- for functional programming".
 use Rattle.std.specs.Prelude.{◌≡◌, ◌⊎◌, Result, Ok, Err}
 
 infixl 45 ◌>>=◌

@@ -29,11 +29,11 @@ target_fits t r c basis leaving entering h d hr hc p q e =
     omega arith
 
 pub leads_back : (t : WholeTableau) (known : List ℕ) (c r : ℕ) → IsLeavingRow t c r → Contains known (neighbour_of t r c) → LeadsBack t known c
-leads_back t known c r h k = record { leads_back = λ q x. subst (λ n. Contains known (neighbour_of t n c)) (lex_row_once t.rated (variable_at t.starts) (tableau t) c r q h x) k }
+leads_back t known c r h k = λ q x. subst (λ n. Contains known (neighbour_of t n c)) (lex_row_once t.rated (variable_at t.starts) (tableau t) c r q h x) k
 
 -- a column without a positive entry has no lexicographic row
 pub no_row : (t : WholeTableau) (known : List ℕ) (c : ℕ) → ((i : ℕ) → i < t.rated → (tableau t).cell i c ≤ℚ zero_ℚ) → LeadsBack t known c
-no_row t known c h = record { leads_back = λ r x. absurd (not_lt_of_le _ _ (h r x.within) x.positive) }
+no_row t known c h = λ r x. absurd (not_lt_of_le _ _ (h r x.within) x.positive)
 
 -- ---- column by column
 -- a column below the bound, with such a pivot
@@ -55,7 +55,7 @@ found_none t place known n found f none =
     record {
       each = λ m c. let z = f.each m c in record { column = z.column; within = (let w : z.column < n = z.within in omega arith); found = z.found };
       all = λ column r h x new. elim (eq-or-lt_of_le (let l : column ≤ n = omega arith in l)) [
-        | inl e ↦ absurd (subst (λ k. ¬ (Contains known (neighbour_of t r k))) e new (none.leads_back r (subst (λ k. IsLeavingRow t k r) e x)))
+        | inl e ↦ absurd (subst (λ k. ¬ (Contains known (neighbour_of t r k))) e new (none r (subst (λ k. IsLeavingRow t k r) e x)))
         | inr l ↦ f.all column r l x new
       ];
     }

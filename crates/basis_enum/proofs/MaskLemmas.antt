@@ -149,3 +149,23 @@ high_word n x word h =
         let b : word < 2 ^ n = h.below in
         let p : 2 ^ n ≡ 2 ^ (n - 64) * 2 ^ 64 = ap (λ a. 2 ^ a) (let s : n ≡ n - 64 + 64 = omega arith in s) ∙ pow-add 2 (n - 64) 64 in
         omega arith
+
+-- the two words of so many ones
+pub ones_words : (n : ℕ) → ((2 ^ n - 1) % 2 ^ 64 ≡ 2 ^ min n 64 - 1) × ((2 ^ n - 1) / 2 ^ 64 ≡ 2 ^ (n - 64) - 1)
+ones_words n = elim (cases_lt n 64) [
+  | inl l ↦
+      let low : min n 64 ≡ n = omega (arith, l) in
+      let high : n - 64 ≡ 0 = omega (arith, l) in
+      let some : 0 < 2 ^ n = pow_pos n in
+      let few : 2 ^ n ≤ 2 ^ 64 = pow-le-pow_right (lit< tt) {i = n} {j = 64} (omega (arith, l)) in
+      let all : (2 ^ n - 1) % 2 ^ 64 ≡ 2 ^ n - 1 = omega (arith, some, few) in
+      let none : (2 ^ n - 1) / 2 ^ 64 ≡ 2 ^ 0 - 1 = omega (arith, some, few) in
+      (all ∙ ap (λ k. 2 ^ k - 1) (sym low), none ∙ ap (λ k. 2 ^ k - 1) (sym high))
+  | inr h ↦
+      let low : min n 64 ≡ 64 = omega (arith, h) in
+      let some : 0 < 2 ^ (n - 64) = pow_pos (n - 64) in
+      let split : 2 ^ n ≡ 2 ^ (n - 64) * 2 ^ 64 = ap (λ k. 2 ^ k) (let s : n ≡ n - 64 + 64 = omega (arith, h) in s) ∙ pow-add 2 (n - 64) 64 in
+      let all : (2 ^ n - 1) % 2 ^ 64 ≡ 2 ^ 64 - 1 = omega (arith, some, split) in
+      let rest : (2 ^ n - 1) / 2 ^ 64 ≡ 2 ^ (n - 64) - 1 = omega (arith, some, split) in
+      (all ∙ ap (λ k. 2 ^ k - 1) (sym low), rest)
+]

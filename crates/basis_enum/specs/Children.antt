@@ -82,7 +82,8 @@ IsChildStop e (Unfit place unfit) = (place < length e.next.now)
 IsChildStop e Memory = Unit {0}
 
 -- what a pivot leads to is ready, with variables of the system, and has the pivot's target
-pub record LeadsToReady (s : LinearSystem) (level : List WholeTableau) (p : FoundPivot) : Type 0 where
+pub record LeadsToReady (s : LinearSystem) (level : List WholeTableau)
+    (p : FoundPivot) : Type 0 where
   pub ready : (t : WholeTableau) → IsPivoted level (pivot_of p) t → IsReady t
   pub numbered : (t : WholeTableau) → IsPivoted level (pivot_of p) t
       → AreUpTo (variable_count s) t.basics

@@ -24,8 +24,9 @@ pub record IsFound (t : WholeTableau) (place : ℕ) (known : List ℕ) (col : �
   pub new : ¬ (Contains known p.target)
 
 -- the pivot in this column, where there is one, leads to a known basis
-pub record LeadsBack (t : WholeTableau) (known : List ℕ) (column : ℕ) : Type 0 where
-  pub leads_back : (r : ℕ) → IsLeavingRow t column r → Contains known (neighbour_of t r column)
+abbrev pub LeadsBack : WholeTableau → List ℕ → ℕ → Type 0
+LeadsBack t known column =
+    (r : ℕ) → IsLeavingRow t column r → Contains known (neighbour_of t r column)
 
 -- among these is the pivot in this column
 abbrev pub HasFound : WholeTableau → ℕ → List ℕ → List FoundPivot → ℕ → Type 0

@@ -9,17 +9,18 @@ use Rattle.linear_systems.specs.Points.{IsNonzeroAt}
 use Rattle.linear_systems.specs.Rows.{basic_solution}
 use Rattle.linear_systems.specs.Vertices.{MarkedPoint, IsMarkOf, mask_of}
 use Rattle.basis_enum.specs.declared.vertex.Vertex.{Vertex}
-use Rattle.basis_enum.specs.Systems.{variable_count}
+use Rattle.basis_enum.specs.Systems.{most_variables, variable_count}
 use Rattle.basis_enum.specs.Vertices.{mark_of}
 
 -- each of the variables is one of 1 to n
 abbrev pub AreUpTo : ℕ → List ℕ → Type 0
 AreUpTo n variables = All (λ v. (0 < v) × (v ≤ n)) variables
 
--- the row in which each variable up to 128 is basic, or none, for variable v at place v - 1
+-- the row in which each variable that a system may have is basic, or none, for variable v at place
+-- v - 1
 pub record AreRowsOf (t : WholeTableau) (rows : List (Option ℕ)) : Type 0 where
-  pub size : length rows ≡ 128
-  pub each : (l : ℕ) → l < 128 → IsIndexOf t.basics (suc l) (get_or rows l None)
+  pub size : length rows ≡ most_variables
+  pub each : (l : ℕ) → l < most_variables → IsIndexOf t.basics (suc l) (get_or rows l None)
 
 -- the values of variables in the basic solution
 abbrev pub values_of : WholeTableau → List ℕ → List ℚ
@@ -44,7 +45,8 @@ pub record AreMarksOf (s : LinearSystem) (ts : List WholeTableau)
     (marks : List MarkedPoint) : Type 0 where
   pub each : (mark : MarkedPoint) → Contains marks mark → IsMarkIn s ts mark
   pub all : (t : WholeTableau) → Contains ts t
-      → IsNonzeroAt (system_of s) (basic_solution (tableau t)) → (mark : MarkedPoint) × Contains marks mark
+      → IsNonzeroAt (system_of s) (basic_solution (tableau t))
+      → (mark : MarkedPoint) × Contains marks mark
       × IsMarkOf (variable_count s) (system_of s) (basic_solution (tableau t)) mark
 
 -- the same marks in ascending order of their masks, one of each mask

@@ -5,17 +5,21 @@ ghost use Rattle.std.specs.List.{Contains};
 ghost use Rattle.std.specs.List.Sorted.{IsStrictlyIncreasing};
 ghost use Rattle.basis_enum.specs.Bases.{AreVariables, basis_of, digit as digit_of};
 ghost use Rattle.basis_enum.specs.Merged.{IsMerged, TakesFirst};
+ghost use Rattle.basis_enum.specs.Systems.{most_variables};
 
 use answers::Memory;
 use std::alloc::Global;
 
+/// How many variables a system has at most: so many digits a basis has.
+pub(crate) const MOST_VARIABLES: usize = 128;
+
 // What the digit of a variable counts.
 pub(crate) fn digit(variable: u32) -> u128
     requires above { 0 < variable }
-    requires most { variable ≤ 128 }
+    requires most { variable ≤ most_variables }
     ensures { result ≡ digit_of variable }
 {
-    1 << (128 - variable)
+    1 << (MOST_VARIABLES as u32 - variable)
 }
 
 // The basis that has these nonbasic variables.
@@ -31,11 +35,11 @@ pub(crate) fn basis(nonbasics: &[u32]) -> u128
 }
 
 // The basis after one variable has left it and another has entered.
-pub(crate) fn exchanged(basis: u128, leaving: u32, entering: u32) -> u128
+pub(crate) fn neighbour(basis: u128, leaving: u32, entering: u32) -> u128
     requires leaving_above { 0 < leaving }
-    requires leaving_most { leaving ≤ 128 }
+    requires leaving_most { leaving ≤ most_variables }
     requires entering_above { 0 < entering }
-    requires entering_most { entering ≤ 128 }
+    requires entering_most { entering ≤ most_variables }
     requires has { digit_of entering ≤ basis }
     requires fits { basis + digit_of leaving < 2 ^ 128 + digit_of entering }
     ensures { result + digit_of entering ≡ basis + digit_of leaving }

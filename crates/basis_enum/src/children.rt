@@ -34,8 +34,8 @@ pub(crate) struct Expansion<'a, 's> {
     pub spent: SpentShare<'s>,
 }
 
-// Why the next level has no tableaux: the place of a pivot with its first step that does not fit,
-// or no memory.
+// Why the next level has no tableaux: the place of a pivot with its first step that does not fit;
+// `Memory` where memory ran out.
 #[derive(Drop)]
 pub(crate) enum ChildStop {
     Unfit { place: usize, unfit: Unfit },

@@ -33,7 +33,8 @@ use std::thread::Threads;
 /// `Start` exactly where a step of the start does not fit: the first. Else the bases are enumerated
 /// level by level, up to the first level after which it stops: `TooLarge` exactly where with the
 /// next level there are more than 20,000 bases, and else `Range` exactly where a pivot to the next
-/// level does not fit: the first, in the order of the bases to which they lead. Or no memory.
+/// level does not fit: the first, in the order of the bases to which they lead. `Memory` where
+/// memory ran out.
 pub fn enumerate<R: Threads + Sync, G: Gate, L: Ledger>(
     rt: &R,
     alloc: Global,

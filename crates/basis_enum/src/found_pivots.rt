@@ -9,7 +9,7 @@ ghost use Rattle.basis_enum.specs.Marks.{AreUpTo, IsVertexOf};
 ghost use Rattle.basis_enum.specs.Next.{AreSmall, IsNextOf, rank_of, target_of};
 ghost use Rattle.basis_enum.specs.Systems.{IsEnumerable, variable_count};
 
-use crate::bases::{exchanged, is_known};
+use crate::bases::{is_known, neighbour};
 use crate::marking::vertex_of;
 use crate::vertex::Vertex;
 use answers::Memory;
@@ -44,7 +44,7 @@ fn target(tableau: &Tableau, basis: u128, row: usize, column: usize) -> u128
     requires column_in { column < length tableau.now.nonbasics }
     ensures { result ≡ neighbour_of tableau.now row column }
 {
-    exchanged(basis, tableau.basic(row), tableau.nonbasic(column))
+    neighbour(basis, tableau.basic(row), tableau.nonbasic(column))
 }
 
 // The pivot in a column, where there is one and its basis is new.

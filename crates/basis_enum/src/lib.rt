@@ -5,7 +5,7 @@
 //! of bases, which are no fewer, or the first step that does not fit, or the limit: one of these,
 //! and only one (`vertices_are_single`, `vertices_are_answered`); the pivots that are counted are
 //! one fewer than the bases. `enumerate_with` gives the same by `Helpers`, idle workers that
-//! several enumerations share.
+//! several enumerations share; `all_labels` gives the mask of all labels.
 //! Definitions: `specs::Reached` has the bases of a system in stages, level by level, `Levels` what
 //! levels are, `Bases` bases as numbers, `Enumeration` what a system answers; `linear_systems` says
 //! what vertices are. `Texts` says how a basis is displayed.
@@ -32,6 +32,7 @@ mod workshop;
 
 pub use claims::Helpers;
 pub use enumeration::{enumerate, enumerate_with};
+pub use marking::all_labels;
 pub use stop::{Basis, EnumerationStop};
 pub use vertex::{Vertex, Vertices};
 

@@ -1,14 +1,15 @@
 // The vertices of tableaux' basic solutions.
-ghost use Rattle.std.specs.Prelude.{◌≡◌, ◌+◌, ◌*◌, ◌/◌, ◌%◌, ◌-◌, ◌^◌, ◌++◌, ◌<◌, ◌≤◌, suc, length, get_or, ◌≢◌, option_to_list, IfOk, MatchBool, OnOk};
+ghost use Rattle.std.specs.Prelude.{◌≡◌, ◌+◌, ◌*◌, ◌/◌, ◌%◌, ◌-◌, ◌^◌, ◌++◌, ◌<◌, ◌≤◌, ◌∷◌, [], suc, min, ◌≢◌, option_to_list, IfOk, MatchBool, OnOk};
 ghost use Rattle.std.specs.List.{All, Any};
 ghost use Rattle.rational.specs.Rational.{zero_ℚ};
 ghost use Rattle.lex_tableau.specs.Rows.{tableau as fractions_of};
 ghost use Rattle.linear_systems.specs.Rows.{basic_solution};
 ghost use Rattle.linear_systems.specs.Vertices.{IsZeroWord, mask_of};
 ghost use Rattle.basis_enum.specs.Marks.{AreRowsOf, AreSortedOnce, AreUpTo, IsVertexOf, values_of};
-ghost use Rattle.basis_enum.specs.Systems.{IsEnumerable, variable_count};
+ghost use Rattle.basis_enum.specs.Systems.{IsEnumerable, most_variables, variable_count};
 ghost use Rattle.basis_enum.specs.Vertices.{mark_of, marks_of};
 
+use crate::bases::MOST_VARIABLES;
 use crate::vertex::Vertex;
 use answers::Memory;
 use frac128::Frac;
@@ -18,23 +19,20 @@ use std::alloc::Global;
 // How many values a word of a mask has: 2^64.
 const TWO_TO_64: u128 = 1 << 64;
 
-// How many variables a system has at most.
-const MOST_VARIABLES: usize = 128;
-
 // The number with so many bits, all set.
 fn ones(count: usize) -> u128
-    requires { count ≤ 128 }
+    requires { count ≤ most_variables }
     ensures { result ≡ 2 ^ count - 1 }
 {
     if count == 0 {
         return 0;
     }
-    u128::MAX >> (128 - count)
+    u128::MAX >> (MOST_VARIABLES - count)
 }
 
 // The mask of a basic solution: bit v - 1 is set exactly where variable v is zero.
 fn mask(tableau: &Tableau, count: usize) -> u128
-    requires few { count ≤ 128 }
+    requires few { count ≤ most_variables }
     requires numbered { AreUpTo count tableau.now.basics }
     ensures { IsZeroWord count (λ l. basic_solution (fractions_of tableau.now) (suc l)) result }
 {
@@ -49,10 +47,17 @@ fn mask(tableau: &Tableau, count: usize) -> u128
 
 // The two words of a mask, the low one first.
 fn words(mask: u128) -> [u64; 2]
-    ensures low { get_or result 0 0 ≡ mask % 2 ^ 64 }
-    ensures high { get_or result 1 0 ≡ mask / 2 ^ 64 }
+    ensures { result ≡ mask % 2 ^ 64 ∷ mask / 2 ^ 64 ∷ [] }
 {
     [(mask % TWO_TO_64) as u64, (mask / TWO_TO_64) as u64]
+}
+
+/// The mask of so many labels, at most 128: their bits are set, and no others.
+pub fn all_labels(count: usize) -> [u64; 2]
+    requires { count ≤ most_variables }
+    ensures { result ≡ (2 ^ min count 64 - 1) ∷ (2 ^ (count - 64) - 1) ∷ [] }
+{
+    words(ones(count))
 }
 
 // The mask of a vertex as a number.
@@ -64,7 +69,7 @@ fn number(vertex: &Vertex) -> u128
 
 // The row of each basic variable, at the place of the variable: that of variable v is v - 1.
 fn rows_of(tableau: &Tableau) -> [Option<usize>; MOST_VARIABLES]
-    requires { AreUpTo 128 tableau.now.basics }
+    requires { AreUpTo most_variables tableau.now.basics }
     ensures { AreRowsOf tableau.now result }
 {
     let mut rows = [None; MOST_VARIABLES];
@@ -78,7 +83,7 @@ fn rows_of(tableau: &Tableau) -> [Option<usize>; MOST_VARIABLES]
 fn value(tableau: &Tableau, rows: &[Option<usize>], variable: u32) -> Frac
     requires rows { AreRowsOf tableau.now rows.now }
     requires above { 0 < variable }
-    requires most { variable ≤ 128 }
+    requires most { variable ≤ most_variables }
     ensures { result ≡ basic_solution (fractions_of tableau.now) variable }
 {
     match rows[variable as usize - 1] {
@@ -89,8 +94,8 @@ fn value(tableau: &Tableau, rows: &[Option<usize>], variable: u32) -> Frac
 
 // The values of variables in a basic solution.
 fn values(alloc: Global, tableau: &Tableau, variables: &[u32]) -> Result<Vec<Frac>, Memory>
-    requires basics { AreUpTo 128 tableau.now.basics }
-    requires variables { AreUpTo 128 variables.now }
+    requires basics { AreUpTo most_variables tableau.now.basics }
+    requires variables { AreUpTo most_variables variables.now }
     ensures { IfOk result (λ v. v.items ≡ values_of tableau.now variables.now) }
 {
     let rows = rows_of(tableau);

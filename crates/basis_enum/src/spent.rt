@@ -7,7 +7,8 @@ use std::alloc::Global;
 // For how many tableaux there is room at first.
 const FIRST_ROOM: usize = 64;
 
-// The tableaux of levels that are no longer needed. Workers take them from the front, in any order.
+// The tableaux of levels that are no longer needed. Workers take the oldest first; which of them
+// takes which is not said.
 #[derive(Drop)]
 pub(crate) struct Spent {
     own: Worker<Tableau>,

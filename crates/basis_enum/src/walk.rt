@@ -1,6 +1,6 @@
 // The enumeration on its way, level after level.
-ghost use Rattle.std.specs.Prelude.{◌≡◌, ◌<◌, ◌≤◌, ◌+◌, ℕ, length, map, IfErr, IfOk, OnOk, Err};
-ghost use Rattle.std.specs.List.{Contains};
+ghost use Rattle.std.specs.Prelude.{◌≡◌, ◌≢◌, ◌<◌, ◌≤◌, ◌+◌, ℕ, length, map, IfErr, IfOk, OnOk, Err};
+ghost use Rattle.std.specs.List.{AllPairs, Contains};
 ghost use Rattle.std.specs.List.Sorted.{IsStrictlyIncreasing};
 ghost use Rattle.lists.specs.Listed.{AreListed};
 ghost use Rattle.basis_enum.specs.Systems.{IsEnumerable};
@@ -73,15 +73,13 @@ fn start<G: Gate>(
     Ok((walk, next))
 }
 
-// These variables, in ascending order.
+// These variables, which differ from one another, in ascending order.
 fn ascending(alloc: Global, variables: &[u32]) -> Result<Vec<u32>, Memory>
+    requires { AllPairs (λ v w. v ≢ w) variables.now }
     ensures { IfOk result (λ v. AreListed (Contains variables.now) v.items) }
 {
     let mut list = variables.to_vec(alloc)?;
     list.sort_unstable();
-    // Basic variables differ from one another, so nothing is removed; it only shows that they
-    // ascend.
-    list.dedup();
     Ok(list)
 }
 

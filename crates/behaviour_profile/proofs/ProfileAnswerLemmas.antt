@@ -7,8 +7,13 @@ use Rattle.answers.proofs.AnswerLemmas.{bind-single, only-single, refuse_where-s
 use Rattle.rational.specs.Rational.{ℚ}
 use Rattle.behaviour_profile.specs.declared.entries.ProfileFault.{ProfileFault}
 use Rattle.behaviour_profile.specs.declared.entries.ProfileFault.TheVariants as faults
-use Rattle.behaviour_profile.specs.EntryTests.{TestHolds, all_pass, fault_of, profile_in, tests_from}
+use Rattle.behaviour_profile.specs.EntryTests.{TestHolds, all_pass, fault_of, group_in, group_tests, profile_in, tests_from}
 use Rattle.behaviour_profile.proofs.FirstFaultLemmas.{all_pass-single, tests_in}
+
+pub group_once : (entries : List ℚ) (place group n : ℕ) → IsSingle (group_in entries place group n)
+group_once entries place group n =
+    let tests = group_tests entries place group n in
+    refused_by-single fault_of (all_pass tests) (all_pass-single tests)
 
 module _ (sizes : List ℕ) (entries : List ℚ) where
   pub profile_once : IsSingle (profile_in sizes entries)

@@ -1,4 +1,5 @@
--- The behaviour of two plans on a tree, and the first of its quotients that does not fit. Source: von Stengel 1996.
+-- The behaviour of two plans on a tree, and the first of its quotients that does not fit. Source:
+-- von Stengel 1996.
 use Rattle.std.specs.Prelude.{ℕ, List, [], ◌∷◌, map, if◌then◌else◌, Some}
 use Rattle.std.specs.List.{range_with_len, flat_map}
 use Rattle.answers.specs.Answers.{Answer, ◌>>◌, only, refused_by}
@@ -27,13 +28,15 @@ pub record OwnAction : Type 0 where
 
 -- the actions of set s, which is player i's own
 abbrev pub actions_at : Tree → ℕ → ℕ → List OwnAction
-actions_at t i s = map (λ a. record { player = i; set = s; action = a }) (range_with_len 0 (t.actions s))
+actions_at t i s =
+    map (λ a. record { player = i; set = s; action = a }) (range_with_len 0 (t.actions s))
 
 -- player i's actions, set by set
 abbrev pub own_actions : Tree → ℕ → List OwnAction
 own_actions t i = flat_map (actions_at t i) (own_sets t i)
 
--- the step of a share: the weight after is divided by the weight before; there is none where that is 0
+-- the step of a share: the weight after is divided by the weight before; there is none where that
+-- is 0
 abbrev pub share_steps : ℚ → ℚ → List Step
 share_steps before after = if eq_ℚ before zero_ℚ then [] else step_of Div after before ∷ []
 
@@ -55,7 +58,8 @@ quotient_stop t unfit = stops.Range unfit.0.player (label_of t unfit.0.set) unfi
 -- the quotients of player i all fit; or the first that does not
 abbrev pub own_quotients_in : GameTree → (ℕ → ℕ → ℚ) → ℕ → Answer BehaviourStop (Unit {0})
 own_quotients_in t plans i =
-    refused_by (quotient_stop t) (all_fit (quotient_steps (game_of_tree t) plans) (own_actions (game_of_tree t) i))
+    refused_by (quotient_stop t)
+    (all_fit (quotient_steps (game_of_tree t) plans) (own_actions (game_of_tree t) i))
 
 -- The entries of the behaviour of two plans, all quotients of which fit, player 0's and then
 -- player 1's; or the first that does not.

@@ -14,11 +14,13 @@ use Rattle.behaviour_profile.specs.declared.plans.BehaviourStop.TheVariants as s
 
 -- the share of action a of a set
 abbrev pub share_at : List ℚ → SetRow → ℕ → ℚ
-share_at weights row a = share row.count (entry_at weights row.before) (entry_at weights (row.first + a))
+share_at weights row a =
+    share row.count (entry_at weights row.before) (entry_at weights (row.first + a))
 
 -- its step
 abbrev pub steps_at : List ℚ → SetRow → ℕ → List Step
-steps_at weights row a = share_steps (entry_at weights row.before) (entry_at weights (row.first + a))
+steps_at weights row a =
+    share_steps (entry_at weights row.before) (entry_at weights (row.first + a))
 
 -- the actions of a set
 abbrev pub actions_of : SetRow → List ℕ
@@ -28,4 +30,5 @@ actions_of row = range_with_len 0 row.count
 -- does not.
 abbrev pub shares_in : List ℚ → SetRow → ℕ → ℕ → Answer BehaviourStop (Unit {0})
 shares_in weights row i label =
-    refused_by (λ (stop : ℕ × Step). stops.Range i label stop.1) (all_fit (steps_at weights row) (actions_of row))
+    refused_by (λ (stop : ℕ × Step). stops.Range i label stop.1)
+    (all_fit (steps_at weights row) (actions_of row))

@@ -198,6 +198,12 @@ pub fn profiles_are_single()
     ensures { (sizes : List ℕ) (entries : List ℚ) → IsSingle (profile_in sizes entries) }
 {}
 
+/// The entries of a group have at most one answer: that they are all right, or what is wrong with
+/// them first.
+pub fn groups_are_single()
+    ensures { (entries : List ℚ) (place group n : ℕ) → IsSingle (group_in entries place group n) }
+{}
+
 /// Entries have an answer: that they are all right, or what is wrong with them first.
 pub fn profiles_are_answered()
     ensures { (sizes : List ℕ) (entries : List ℚ) → IsAnswered (profile_in sizes entries) }

@@ -11,7 +11,8 @@
 //! Lemmas for callers: `proofs::GroupListLemmas`, `FirstFaultLemmas`, `ProfileAnswerLemmas`,
 //! `TestedEntryLemmas`, `BehaviourEntryLemmas` and `EntryStartLemmas` on entries, `PlanStopLemmas`
 //! on plans.
-//! A change here touches: `enumpure_trees`, `verdicts`, `ne_checker`, `lp` and `lcp`.
+//! A change here touches: `enumpure_trees`, `verdicts`, `ne_checker`, `two_player_tools`,
+//! `gambit_tools` and `refusals`.
 #![tactic(auto)]
 
 ghost use Rattle.std.specs.Prelude.{◌≡◌, ◌++◌, length, map, IfOk, OnOk};
@@ -31,7 +32,7 @@ mod starts;
 
 use answers::Memory;
 pub use entries::{
-    ProfileFault, profiles_are_answered, profiles_are_single, test_group,
+    ProfileFault, groups_are_single, profiles_are_answered, profiles_are_single, test_group,
     tested_entries_are_behaviours, tested_entries_are_profiles,
 };
 use frac128::Frac;

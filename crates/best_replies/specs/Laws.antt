@@ -11,7 +11,7 @@ use Rattle.game_theory.specs.TreeEquilibrium.{IsEquilibrium}
 use Rattle.game_theory.specs.FirstNodes.{AreNumberedByFirstNodes}
 use Rattle.game_theory.specs.Recall.{AllRecall, HasPerfectRecall}
 use Rattle.best_replies.specs.Greatest.{HasFirstGreatest}
-use Rattle.best_replies.specs.Order.{AscendOnPaths, AgreeFrom, AgreeWithin}
+use Rattle.best_replies.specs.Order.{AscendOnPaths, AgreeFrom, ChoicesAgreeWithin}
 use Rattle.best_replies.specs.Reaching.{reach, weight}
 use Rattle.best_replies.specs.Replies.{reply_value, is_member, action_value, AreBestChoices, OthersBehaveAlike, HasBetterReply}
 use Rattle.best_replies.specs.Strategies.{strategy_value, IsBestStrategy, HasBetterStrategy}
@@ -114,7 +114,7 @@ SetsAscendOnPaths =
 abbrev pub ReplyValuesDependOnSubtrees : Type 0
 ReplyValuesDependOnSubtrees =
     (t : Tree) (b : Behaviour) (i : ℕ) (choice other : ℕ → ℕ) (k : ℕ) → IsTree t → k < t.size
-    → AgreeWithin t i choice other k → reply_value t b i choice k ≡ reply_value t b i other k
+    → ChoicesAgreeWithin t i choice other k → reply_value t b i choice k ≡ reply_value t b i other k
 
 -- and after an own set only on the choices at later sets
 abbrev pub ReplyValuesDependOnLaterSets : Type 0

@@ -14,7 +14,7 @@ AgreeFrom t i choice other s =
     (r : ℕ) → s ≤ r → r < t.sets → t.owner r ≡ Some i → choice r ≡ other r
 
 -- choices that are the same at player i's own sets in the subtree of node k
-abbrev pub AgreeWithin : Tree → ℕ → (ℕ → ℕ) → (ℕ → ℕ) → ℕ → Type 0
-AgreeWithin t i choice other k =
+abbrev pub ChoicesAgreeWithin : Tree → ℕ → (ℕ → ℕ) → (ℕ → ℕ) → ℕ → Type 0
+ChoicesAgreeWithin t i choice other k =
     (c s : ℕ) → IsWithin t k c → c < t.size → t.set c ≡ Some s → t.owner s ≡ Some i
     → choice s ≡ other s

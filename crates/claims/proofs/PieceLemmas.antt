@@ -190,8 +190,12 @@ few_halved count parts theirs olds xs ys both within joined a b =
     let all : 2 * (parts - theirs) * turn_limit count + 2 * theirs * turn_limit count ≡ 2 * parts * turn_limit count = taken_twice (2 * (parts - theirs)) (2 * theirs) (turn_limit count) ∙ ap (λ k. k * turn_limit count) (let e : 2 * (parts - theirs) + 2 * theirs ≡ 2 * parts = omega arith in e) in
     omega (arith, l, a, b, all)
 
-few_helped : (count n : ℕ) → count < 2 ^ 32 → n + 1 * turn_limit count ≤ 0 + 2 * 64 * turn_limit count → n < 2 ^ 64
-few_helped count n c few = omega (arith, c, few)
+-- the turns are fewer than twice 64
+few_helped : (count n : ℕ) → n + 1 * turn_limit count ≤ 0 + 2 * 64 * turn_limit count → n ≤ 127 * turn_limit count
+few_helped count n few = omega (arith, few)
+
+pub helped_below : (count n : ℕ) → count < 2 ^ 32 → n ≤ 127 * turn_limit count → n < 2 ^ 64
+helped_below count n c few = omega (arith, c, few)
 
 -- what two workers with a half of the parts each claimed
 pub halves_few : (count theirs : ℕ) (claims : TableId) (old mine other after after_other : PassState) (both : List ℕ) → theirs ≤ old.parts → mine ≡ pass_state claims (old.parts - theirs) old.claimed → other ≡ pass_state claims theirs []
@@ -201,5 +205,5 @@ halves_few count theirs claims old mine other after after_other both within kept
     (subst (λ (s : PassState). length after_other.claimed + 1 * turn_limit count ≤ length s.claimed + 2 * s.parts * turn_limit count) given second.few)
 
 -- what the workers claimed by a pass with all parts that had claimed nothing
-pub all_few : (count : ℕ) (claims : TableId) (old after : PassState) → count < 2 ^ 32 → old ≡ pass_state claims 64 [] → IsHelped count 1 old after → length after.claimed < 2 ^ 64
-all_few count claims old after few new helped = few_helped count (length after.claimed) few (subst (λ (s : PassState). length after.claimed + 1 * turn_limit count ≤ length s.claimed + 2 * s.parts * turn_limit count) new helped.few)
+pub all_few : (count : ℕ) (claims : TableId) (old after : PassState) → old ≡ pass_state claims 64 [] → IsHelped count 1 old after → length after.claimed ≤ 127 * turn_limit count
+all_few count claims old after new helped = few_helped count (length after.claimed) (subst (λ (s : PassState). length after.claimed + 1 * turn_limit count ≤ length s.claimed + 2 * s.parts * turn_limit count) new helped.few)

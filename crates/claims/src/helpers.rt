@@ -56,8 +56,11 @@ impl Helpers {
             .is_ok()
     }
 
-    /// Adds so many workers that are idle from now on.
+    /// Adds so many workers that are idle from now on. Their number stops at 2^32 - 1.
     pub fn add(&self, count: u32) {
-        self.idle.fetch_add(count, Ordering::SeqCst);
+        let more = |idle: u32| -> Option<u32> { Some(idle.saturating_add(count)) };
+        let _ = self
+            .idle
+            .fetch_update(Ordering::SeqCst, Ordering::SeqCst, more);
     }
 }

@@ -1,6 +1,6 @@
 // Work that idle workers help with: they claim its pieces beside the calling thread, from the time
 // on at which they are idle.
-ghost use Rattle.std.specs.Prelude.{◌≡◌, ◌<◌, ◌≤◌, ◌+◌, ◌++◌, ◌^◌, ℕ, [], length, IfOk, IfSome, IfNone, OnOk, vec_len};
+ghost use Rattle.std.specs.Prelude.{◌≡◌, ◌<◌, ◌≤◌, ◌+◌, ◌*◌, ◌++◌, ◌^◌, ℕ, [], length, IfOk, IfSome, IfNone, OnOk, vec_len};
 ghost use Rattle.std.specs.Fork.{GivesEach};
 ghost use Rattle.std.specs.Thread.{IsSync, IsSend};
 ghost use Rattle.claims.specs.ClaimWord.{HasEachBelow, KnowsWhole, pass_state};
@@ -32,11 +32,12 @@ pub(crate) struct Job<'a, R, F, G> {
 /// in, in a thread of its own where one can be made, where some are idle and a worker's share of
 /// the pieces that are left is enough for one; the worker and the helper then have half of the
 /// share each. The calling thread looks for helpers at the start, and each worker after every 16
-/// pieces. Each helper is added again. Where some are idle at the start, a thread that does nothing
-/// is started first, and nobody waits for it. The workers claim the numbers from the claim word,
-/// and pass the gate before each piece. The pass has all 64 parts and has claimed nothing; whatever
-/// the answer, it has all parts again, and tells the numbers that were claimed. Refused for want of
-/// memory alone.
+/// pieces. Each helper is added again. Where some are idle at the start, and the pieces are enough
+/// for one, a thread that does nothing is started first, and nobody waits for it. The workers claim
+/// the numbers from the claim word, and pass the gate before each piece: in at most 127 turns, each
+/// of at most 16 claims more than there are pieces. The pass has all 64 parts and has claimed
+/// nothing; whatever the answer, it has all parts again, and tells the numbers that were claimed.
+/// Refused for want of memory alone.
 ///
 /// # Errors
 ///
@@ -55,6 +56,7 @@ pub fn helped_map<R: Threads + Sync, T: Send + Drop, F: Fn(usize) -> T + Sync, G
     requires count { count < 2 ^ 32 }
     requires accepts { (k : ℕ) → k < count → F.pre f.now k }
     ensures pass { pass.new ≡ pass_state claims.now 64 pass.new.claimed }
+    ensures few { length pass.new.claimed ≤ 127 * (count + 16) }
     ensures each_once { HasEachBelow (length pass.new.claimed) pass.new.claimed }
     ensures past { OnOk result (count < length pass.new.claimed) }
     ensures len { IfOk result (λ v. vec_len v ≡ count) }
@@ -209,7 +211,7 @@ fn both_helped<R: Threads + Sync, T: Send + Drop, F: Fn(usize) -> T + Sync, G: G
     ensures second { OnOk result.1
         (AreDone F.Fn job.now.work.f.now job.now.work.count other.new.claimed rest.new.items) }
 {
-    let mut back = || -> Result<(), Memory>
+    let mut own = || -> Result<(), Memory>
         requires shared { IsSync R.row × IsSync F.row × IsSync G.row × IsSend T.row }
         requires work { IsAtWork F.Fn job.now.work.f.now job.now.work.count job.now.work.claims.now
             pass.now pieces.now.items }
@@ -223,7 +225,7 @@ fn both_helped<R: Threads + Sync, T: Send + Drop, F: Fn(usize) -> T + Sync, G: G
         make_room(job.work.alloc);
         helped(job, left, pass, pieces)
     };
-    let mut front = || -> Result<(), Memory>
+    let mut helping = || -> Result<(), Memory>
         requires shared { IsSync R.row × IsSync F.row × IsSync G.row × IsSend T.row }
         requires work { IsAtWork F.Fn job.now.work.f.now job.now.work.count job.now.work.claims.now
             other.now rest.now.items }
@@ -237,7 +239,7 @@ fn both_helped<R: Threads + Sync, T: Send + Drop, F: Fn(usize) -> T + Sync, G: G
         make_room(job.work.alloc);
         helped(job, 0, other, rest)
     };
-    let (second, first) = join_mut(job.work.rt, &mut front, &mut back);
+    let (second, first) = join_mut(job.work.rt, &mut helping, &mut own);
     (first, second)
 }
 

@@ -30,8 +30,10 @@ laid_out style t row column =
     >> refuse_where (row ≡ column) (stops.SamePlayer row)
     >> refused_by stops.TooLarge (limited_text (layout style t (row - 1) (column - 1)))
 
+-- as tables of HTML
 abbrev pub html_text : GameTable → ℕ → ℕ → Answer ConvertStop (List ℕ)
 html_text = laid_out Html
 
+-- as a game of the LaTeX package sgame
 abbrev pub sgame_text : GameTable → ℕ → ℕ → Answer ConvertStop (List ℕ)
 sgame_text = laid_out Sgame

@@ -21,8 +21,8 @@ other_players players row column =
 abbrev pub others_counts : GameTable → ℕ → ℕ → List ℕ
 others_counts t row column = slice_set (slice_set (strategy_counts t) row 1) column 1
 
--- the profile of the others with a number: the strategies of all players, 0 for the row player and the
--- column player
+-- the profile of the others with a number: the strategies of all players, 0 for the row player and
+-- the column player
 abbrev pub others_profile : GameTable → ℕ → ℕ → ℕ → List ℕ
 others_profile t row column k = profile_at (others_counts t row column) k
 

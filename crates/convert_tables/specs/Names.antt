@@ -23,6 +23,7 @@ sgame_escapes =
     ∷ (92, codes "\\textbackslash{}") ∷ (126, codes "\\textasciitilde{}")
     ∷ (94, codes "\\textasciicircum{}") ∷ []
 
+-- what stands for a byte in a style
 abbrev pub escapes : Style → List (ℕ × List ℕ)
 escapes Html = html_escapes
 escapes Sgame = sgame_escapes

@@ -18,9 +18,13 @@ use std::alloc::Global;
 /// A table, and the players whose strategies are its rows and its columns, counted from 0.
 #[derive(Drop)]
 pub struct Axes<'a> {
+    /// How the table is written.
     pub style: Style,
+    /// The table.
     pub table: &'a Table,
+    /// The player whose strategies are the rows.
     pub row: usize,
+    /// The player whose strategies are the columns.
     pub column: usize,
     /// The other players, in order.
     pub others: &'a [usize],

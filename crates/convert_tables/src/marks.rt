@@ -14,9 +14,9 @@ pub enum Style {
 /// What stands around a part of a layout.
 #[derive(Clone, Copy, Debug, PartialEq, Eq)]
 pub enum Mark {
-    /// Before the other players' strategies.
+    /// Before the heading with the other players' strategies.
     HeadingStart,
-    /// After it.
+    /// After the heading.
     HeadingEnd,
     /// Before the name of a column.
     ColumnStart,

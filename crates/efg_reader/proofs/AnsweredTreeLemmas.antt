@@ -1,5 +1,5 @@
 -- The tokens of a source have an answer: a tree, a limit that is passed, or a fault.
-use Rattle.std.proofs.Common.{ℕ, ◌<◌, ◌^◌, List, length, inl, inr, refl, Ok, Err}
+use Rattle.std.proofs.Common.{◌<◌, ◌^◌, List, length, inl, inr, refl, Ok, Err}
 use Rattle.answers.specs.Answered.{IsAnswered}
 use Rattle.game_core.specs.Limits.{first_above}
 use Rattle.game_core.specs.TokenList.{TokenList, bare}

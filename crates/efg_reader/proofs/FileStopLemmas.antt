@@ -58,11 +58,11 @@ front_fault tokens kind rest e = rw e refl
 -- a stop for a front that is not read
 pub front_stop : (tokens : TokenList) (stopped : PartStop EfgKind) (stop : EfgStop) → length tokens.list < 2 ^ 32 → IsPartStop stopped (parse_front (bare tokens.list)) → IsEfgStop stopped tokens stop → Gives stops.Memory (tree_in tokens) (Err stop)
 front_stop tokens part_stops.Memory stop few r s = inl s
-front_stop tokens (part_stops.Unexpected kind left) stop few r s =
-    let f = counted_fault (parse_front (bare tokens.list)) kind left r in
-    let none = no_front_is_nothing (bare tokens.list) (kind, f.0) f.1 in
-    let t = front_fault (bare tokens.list) kind f.0 f.1 in
-    fault_stop tokens kind f.0 stop (rw (length-map tokens.list (λ s. s.token)) few) t none.no_limit (s ∙ ap (λ (n : ℕ). stops.Fault (record { at = offset_of tokens n; kind = kind })) (sym f.2))
+front_stop tokens (part_stops.Unexpected fault) stop few r s =
+    let f = counted_fault (parse_front (bare tokens.list)) fault.kind fault.left r in
+    let none = no_front_is_nothing (bare tokens.list) (fault.kind, f.0) f.1 in
+    let t = front_fault (bare tokens.list) fault.kind f.0 f.1 in
+    fault_stop tokens fault.kind f.0 stop (rw (length-map tokens.list (λ s. s.token)) few) t none.no_limit (s ∙ ap (λ (n : ℕ). stops.Fault (record { at = offset_of tokens n; kind = fault.kind })) (sym f.2))
 
 -- the limit that is passed
 passed_stop : (tokens : TokenList) (passed : What) (stop : EfgStop) → PassesLimit (bare tokens.list) passed → IsNodesStop (Passed passed) tokens stop → Gives stops.Memory (tree_in tokens) (Err stop)
@@ -86,10 +86,10 @@ body_fault tokens x kind rest left e f n = rw (e, f, in_nodes_at kind rest left 
 pub nodes_stop : (tokens : TokenList) (x : FrontPart × List Token) (stopped : NodesStop) (stop : EfgStop) → length tokens.list < 2 ^ 32 → parse_front (bare tokens.list) ≡ Ok x
     → IsStop stopped (parse_all_nodes (length x.0.1) x.1) → IsNodesStop stopped tokens stop → Gives stops.Memory (tree_in tokens) (Err stop)
 nodes_stop tokens x (Refused part_stops.Memory) stop few e h s = inl s
-nodes_stop tokens x (Refused (part_stops.Unexpected kind left)) stop few e h s =
-    let none = no_nodes_are_nothing (bare tokens.list) x (kind, h.0) e h.1 in
-    let t = body_fault (bare tokens.list) x kind h.0 left e h.1 h.2 in
-    fault_stop tokens (kind_in_nodes kind left) h.0 stop (rw (length-map tokens.list (λ s. s.token)) few) t none.no_limit (s ∙ ap (λ (n : ℕ). stops.Fault (record { at = offset_of tokens n; kind = kind_in_nodes kind left })) (sym h.2))
+nodes_stop tokens x (Refused (part_stops.Unexpected fault)) stop few e h s =
+    let none = no_nodes_are_nothing (bare tokens.list) x (fault.kind, h.0) e h.1 in
+    let t = body_fault (bare tokens.list) x fault.kind h.0 fault.left e h.1 h.2 in
+    fault_stop tokens (kind_in_nodes fault.kind fault.left) h.0 stop (rw (length-map tokens.list (λ s. s.token)) few) t none.no_limit (s ∙ ap (λ (n : ℕ). stops.Fault (record { at = offset_of tokens n; kind = kind_in_nodes fault.kind fault.left })) (sym h.2))
 nodes_stop tokens x (Passed passed) stop few e h s =
     passed_stop tokens passed stop (met_is_passed (bare tokens.list) x passed (few_players (bare tokens.list) x (rw (length-map tokens.list (λ s. s.token)) few) e) e h) s
 

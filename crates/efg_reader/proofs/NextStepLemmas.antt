@@ -10,7 +10,7 @@ use Rattle.efg_reader.specs.declared.nodes.NodesStop.TheVariants.{Refused}
 use Rattle.efg_reader.specs.States.{IsStop}
 use Rattle.tree_grammar.proofs.NodeStopLemmas.{MayStand, at_is, unlimited_ok}
 use Rattle.file_parts.specs.Reading.{word_at, text_at, whole_at, optional_text_at, count_at}
-use Rattle.file_parts.specs.Parsing.{Parsed, IsPartStop, wanted}
+use Rattle.file_parts.specs.Parsing.{Parsed, IsPartStop, unexpected_at, wanted}
 use Rattle.file_parts.proofs.ParseLemmas.{refused_first}
 use Rattle.file_parts.proofs.ReaderLemmas.{bind_ok, ok_same, err_same, ok_err}
 use Rattle.written_trees.specs.Written.{SetUse, OutcomeUse}
@@ -26,7 +26,7 @@ use Rattle.std.proofs.lemmas.Bool.{cases_Bool}
 use Rattle.std.specs.Str.{bytes_eq}
 
 -- no node's word comes
-pub no_word : (players : ℕ) (partial : PartialTree) (branchings : List Branching) (tokens : List Token) (stopped : PartStop EfgKind) → begins_node tokens ≡ false → stopped ≡ part_stops.Unexpected Node (length tokens) → IsStop (Refused stopped) (parse_at players partial branchings tokens)
+pub no_word : (players : ℕ) (partial : PartialTree) (branchings : List Branching) (tokens : List Token) (stopped : PartStop EfgKind) → begins_node tokens ≡ false → stopped ≡ part_stops.Unexpected (unexpected_at Node tokens) → IsStop (Refused stopped) (parse_at players partial branchings tokens)
 no_word players partial [] tokens stopped n u = rw u (tokens, refl, refl)
 no_word players partial (b ∷ branchings) tokens stopped n u = rw u (tokens, rw n refl, refl)
 
@@ -41,9 +41,9 @@ beyond players partial tokens what some n limit = beyond_at players partial part
 -- ---- the node
 -- a stop of a part is one of the nodes
 refused_stop : {Y : Type 0} (stopped : PartStop EfgKind) (reading : Result Y (EfgKind × List Token)) → IsPartStop stopped reading → IsStop (Refused stopped) (within_limit None reading)
-refused_stop (part_stops.Unexpected kind left) (Ok x) r = cc
-refused_stop (part_stops.Unexpected kind left) (Err fault) r =
-    let same = err_same (fault.0, length fault.1) (kind, left) r in
+refused_stop (part_stops.Unexpected unfit) (Ok x) r = cc
+refused_stop (part_stops.Unexpected unfit) (Err fault) r =
+    let same = err_same (fault.0, length fault.1) (unfit.kind, unfit.left) r in
     (fault.1, ap (λ (k : EfgKind). Err (inl (k, fault.1))) (ap (λ (f : EfgKind × ℕ). f.0) same), ap (λ (f : EfgKind × ℕ). f.1) same)
 refused_stop part_stops.Memory reading r = tt
 

@@ -8,6 +8,7 @@ use Rattle.std.proofs.lemmas.List.{length-map, length-reverse}
 use Rattle.file_parts.specs.declared.stop.PartStop.{PartStop}
 use Rattle.file_parts.specs.declared.stop.PartStop.TheVariants as part_stops
 use Rattle.file_parts.specs.Reading.{ends}
+use Rattle.file_parts.specs.Parsing.{unexpected_at}
 use Rattle.written_trees.specs.Building.{PartialTree, Branching, root_alone}
 use Rattle.efg_reader.specs.declared.builder.Branching.{Branching as Kept}
 use Rattle.efg_reader.specs.declared.nodes.NodesStop.{NodesStop}
@@ -72,7 +73,7 @@ stuck players partial rest tokens stop free e way = go way.steps way.enough way.
 
 pub refuses_all : (stop : NodesStop) (players : ℕ) (partial : PartialTree) (rest tokens : List Token) → is_whole partial ≡ false → IsStop stop (parse_at players partial partial.branchings rest) → IsUnderWay players partial rest tokens → IsStop stop (parse_all_nodes players tokens)
 refuses_all (Refused part_stops.Memory) players partial rest tokens free r way = tt
-refuses_all (Refused (part_stops.Unexpected kind left)) players partial rest tokens free r way = (r.0, stuck players partial rest tokens (inl (kind, r.0)) free r.1 way, r.2)
+refuses_all (Refused (part_stops.Unexpected fault)) players partial rest tokens free r way = (r.0, stuck players partial rest tokens (inl (fault.kind, r.0)) free r.1 way, r.2)
 refuses_all (Passed what) players partial rest tokens free r way = stuck players partial rest tokens (inr what) free r way
 
 -- ---- the file
@@ -90,7 +91,7 @@ unfolding parse_all_nodes
 whole_read players partial tokens rest w way f = rw (comes_to_end players partial rest tokens w way, f) refl
 
 -- tokens stand after the nodes
-pub more_after : (players : ℕ) (partial : PartialTree) (tokens rest : List Token) (stopped : PartStop EfgKind) → is_whole partial ≡ true → IsUnderWay players partial rest tokens → ends rest ≡ false → stopped ≡ part_stops.Unexpected Trailing (length rest) → IsStop (Refused stopped) (parse_all_nodes players tokens)
+pub more_after : (players : ℕ) (partial : PartialTree) (tokens rest : List Token) (stopped : PartStop EfgKind) → is_whole partial ≡ true → IsUnderWay players partial rest tokens → ends rest ≡ false → stopped ≡ part_stops.Unexpected (unexpected_at Trailing rest) → IsStop (Refused stopped) (parse_all_nodes players tokens)
 unfolding parse_all_nodes
 more_after players partial tokens rest stopped w way f u = rw u (rest, rw (comes_to_end players partial rest tokens w way, f) refl, refl)
 

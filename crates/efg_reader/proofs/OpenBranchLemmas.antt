@@ -1,5 +1,5 @@
 -- The nodes with open branches as the code keeps them, and as the tree grows.
-use Rattle.std.proofs.Common.{◌≡◌, ℕ, zero, suc, ◌+◌, ◌<◌, ◌≤◌, nat_lt, nat_le, Bool, true, false, cond, List, [], ◌∷◌, ◌++◌, length, map, reverse, slice_set, slice_index_or, Option, Some, None, refl, sym, ap, ◌∙◌, subst, arith}
+use Rattle.std.proofs.Common.{◌≡◌, ◌≢◌, ℕ, zero, suc, ◌+◌, ◌<◌, ◌≤◌, nat_lt, nat_le, Bool, true, false, cond, List, [], ◌∷◌, ◌++◌, length, map, reverse, slice_set, slice_index_or, Option, Some, None, refl, sym, ap, ◌∙◌, subst, arith}
 use Rattle.std.proofs.lemmas.Bool.Decides.{nat_tests}
 use Rattle.std.proofs.lemmas.List.{reverse-append, map-append}
 use Rattle.std.proofs.lemmas.List.Elements.{All-nil, All-cons}
@@ -61,6 +61,11 @@ place_taken kept last taken goes_on e t g lt =
     let next = next_is (branching_of h.one) (branchings_of h.front) (rw one at lt) in
     subst (λ (start : List Branching). HasTaken start (Some taken) (branchings_of (slice_set kept last (with_next goes_on)))) (sym start)
     (ap branching_of one, after ∙ ap (λ (b : Kept). branching_of (with_next b) ∷ branchings_of h.front) other ∙ sym next)
+
+-- an open branch is taken
+pub some_taken : (branchings after : List Branching) → branchings ≢ [] → HasTaken branchings None after → ⊥
+some_taken [] after some h = some refl
+some_taken (b ∷ rest) after some h = h
 
 -- what holds of each branching holds of each one that is kept
 pub each_kept : (P : Branching → Type 0) (kept : List Kept) → AllByRecursion P (branchings_of kept) → All (λ b. P (branching_of b)) kept

@@ -27,9 +27,11 @@ nodes_of nodes kept = record { list = nodes; branchings = branchings_of kept }
 
 -- the tree of these nodes, sets and outcomes, as far as it is partial
 abbrev pub tree_of : PartialNodes → List PartialSet → List PartialOutcome → PartialTree
-tree_of nodes sets outcomes = record { nodes = nodes.list; sets = sets; outcomes = outcomes; branchings = nodes.branchings }
+tree_of nodes sets outcomes =
+    record { nodes = nodes.list; sets = sets; outcomes = outcomes; branchings = nodes.branchings }
 
--- a branching among so many nodes: each of its actions before the next led to one of them, and it lies within the limit
+-- a branching among so many nodes: each of its actions before the next led to one of them, and it
+-- lies within the limit
 pub record IsNear (nodes : ℕ) (b : Branching) : Type 0 where
   pub next_within : b.next ≤ nodes
   pub depth_within : b.depth ≤ suc most_depth
@@ -52,11 +54,13 @@ HasTaken (b ∷ rest) (Some taken) after = (branching_of taken ≡ b) × (after 
 
 -- a stop is the reading's reason, unless memory ran out
 abbrev pub IsStop : {Y : Type 0} → NodesStop → Result Y NodeStop → Type 0
-IsStop (Refused (part_stops.Unexpected kind left)) reading = (rest : List Token) × (reading ≡ Err (inl (kind, rest))) × (length rest ≡ left)
+IsStop (Refused (part_stops.Unexpected fault)) reading =
+    (rest : List Token) × (reading ≡ Err (inl (fault.kind, rest))) × (length rest ≡ fault.left)
 IsStop (Refused part_stops.Memory) reading = Unit {0}
 IsStop (Passed what) reading = reading ≡ Err (inr what)
 
--- what a function of the code answered, seen by view, is what the reading gives, unless memory ran out
+-- what a function of the code answered, seen by view, is what the reading gives, unless memory ran
+-- out
 abbrev pub ParsesNodes : {X Y : Type 0} → (X → Y) → Result X NodesStop → Result Y NodeStop → Type 0
 ParsesNodes view (Ok x) reading = reading ≡ Ok (view x)
 ParsesNodes view (Err stop) reading = IsStop stop reading

@@ -26,17 +26,19 @@ IsPassed tokens limit =
     ((limit ≡ first_above Nodes most_nodes) × PassesLimit tokens Nodes)
     ⊎ ((limit ≡ first_above Depth most_depth) × PassesLimit tokens Depth)
 
--- The tree of a file, within the limits of trees. A fault comes with its offset and its kind, where the tokens have one and pass no
--- limit; a limit comes where it is passed.
+-- The tree of a file, within the limits of trees. A fault comes with its offset and its kind, where
+-- the tokens have one and pass no limit; a limit comes where it is passed.
 abbrev pub tree_in : TokenList → Answer EfgStop GameTree
 tree_in tokens (Ok tree) = IsTreeFile (bare tokens.list) tree
-tree_in tokens (Err (stops.Fault fault)) = IsFault tokens fault.kind fault.at × ((what : What) → PassesLimit (bare tokens.list) what → ⊥)
+tree_in tokens (Err (stops.Fault fault)) =
+    IsFault tokens fault.kind fault.at × ((what : What) → PassesLimit (bare tokens.list) what → ⊥)
 tree_in tokens (Err (stops.TooLarge limit)) = IsPassed (bare tokens.list) limit
 tree_in tokens (Err stops.Memory) = ⊥
 
 -- the stop that a part's becomes
 abbrev pub IsEfgStop : PartStop EfgKind → TokenList → EfgStop → Type 0
-IsEfgStop (part_stops.Unexpected kind left) tokens stop = stop ≡ stops.Fault (record { at = offset_of tokens left; kind = kind })
+IsEfgStop (part_stops.Unexpected fault) tokens stop =
+    stop ≡ stops.Fault (record { at = offset_of tokens fault.left; kind = fault.kind })
 IsEfgStop part_stops.Memory tokens stop = stop ≡ stops.Memory
 
 -- the kind inside the nodes: where no token is left, they end too early
@@ -46,7 +48,10 @@ kind_in_nodes kind (suc left) = kind
 
 -- the stop that nodes become that are not read
 abbrev pub IsNodesStop : NodesStop → TokenList → EfgStop → Type 0
-IsNodesStop (Refused (part_stops.Unexpected kind left)) tokens stop = stop ≡ stops.Fault (record { at = offset_of tokens left; kind = kind_in_nodes kind left })
+IsNodesStop (Refused (part_stops.Unexpected fault)) tokens stop =
+    stop
+    ≡ stops.Fault
+    (record { at = offset_of tokens fault.left; kind = kind_in_nodes fault.kind fault.left })
 IsNodesStop (Refused part_stops.Memory) tokens stop = stop ≡ stops.Memory
 IsNodesStop (Passed Nodes) tokens stop = stop ≡ stops.TooLarge (first_above Nodes most_nodes)
 IsNodesStop (Passed _) tokens stop = stop ≡ stops.TooLarge (first_above Depth most_depth)

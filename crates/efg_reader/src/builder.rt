@@ -143,7 +143,7 @@ impl Nodes {
             mut branchings,
         } = self;
         let Some(branching) = take_branch(&mut branchings) else {
-            return Ok(Nodes { list, branchings });
+            unreachable!();
         };
         let number = list.len() as u32;
         let count = sets.count(used.set);

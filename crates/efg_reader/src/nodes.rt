@@ -90,7 +90,7 @@ fn use_set<'a>(
 
 // The sets with one of the player whose number comes, that set as the node uses it, and the tokens
 // after it.
-#[tactic(auto, using(file_parts::proofs::ParseLemmas::refused_first, tree_faults::proofs::ShortRestLemmas::player_leaves), unfolding(tree_grammar::specs::TreeParsing::parse_own_choice))]
+#[tactic(auto, using(file_parts::proofs::ParseLemmas::stops, tree_faults::proofs::ShortRestLemmas::player_leaves), unfolding(tree_grammar::specs::TreeParsing::parse_own_choice))]
 fn use_own_set<'a>(
     alloc: Global,
     sets: Sets,

@@ -6,12 +6,12 @@ ghost use Rattle.game_core.specs.Tree.{IsGameTree};
 ghost use Rattle.written_trees.specs.Building.{tree_so_far};
 ghost use Rattle.efg_reader.specs.Stops.{IsEfgStop, IsNodesStop, tree_in};
 ghost use Rattle.efg_reader.specs.declared.fault.EfgStop.TheVariants.{Memory};
-ghost use Rattle.game_core.specs.TokenList.{TokenList, bare};
+ghost use Rattle.game_core.specs.TokenList.{TokenList};
 
 use crate::builder::{Builder, MOST_DEPTH, MOST_NODES};
 use crate::fault::{EfgFault, EfgStop};
 use crate::nodes::{NodesStop, read_nodes};
-use file_parts::{PartStop, offset};
+use file_parts::{PartStop, Unexpected, offset};
 use game_core::{Tokens, TooLarge, Tree, What};
 use std::alloc::Global;
 use tree_grammar::{EfgKind, Front, read_front};
@@ -21,9 +21,9 @@ fn stop(stopped: PartStop<EfgKind>, tokens: &Tokens) -> EfgStop
     ensures { IsEfgStop stopped tokens.now result }
 {
     match stopped {
-        PartStop::Unexpected(kind, left) => EfgStop::Fault(EfgFault {
-            at: offset(tokens, left),
-            kind,
+        PartStop::Unexpected(fault) => EfgStop::Fault(EfgFault {
+            at: offset(tokens, fault.left),
+            kind: fault.kind,
         }),
         PartStop::Memory => EfgStop::Memory,
     }
@@ -34,10 +34,12 @@ fn nodes_stop(stopped: NodesStop, tokens: &Tokens) -> EfgStop
     ensures { IsNodesStop stopped tokens.now result }
 {
     match stopped {
-        NodesStop::Refused(PartStop::Unexpected(_, 0)) => stop(
-            PartStop::Unexpected(EfgKind::Unfinished, 0),
-            tokens,
-        ),
+        NodesStop::Refused(PartStop::Unexpected(Unexpected { left: 0, .. })) => {
+            EfgStop::Fault(EfgFault {
+                at: offset(tokens, 0),
+                kind: EfgKind::Unfinished,
+            })
+        }
         NodesStop::Refused(stopped) => stop(stopped, tokens),
         NodesStop::Passed(What::Nodes) => {
             EfgStop::TooLarge(TooLarge::first_above(What::Nodes, MOST_NODES as u64))

@@ -78,7 +78,7 @@ module _ (n : ℕ) (places : List ℕ) (ascending : IsStrictlyIncreasing places)
 -- ---- texts
 -- a game with pairs has a text
 own_text : (game : Game) (e : VertexPairs) → extreme_pairs game (Ok e) → (text : List ℕ) × IsExtremeEquilibriaText game text
-own_text game e h = let counted = pairs-counted game e h in (lines_text counted.0, record { lines = counted.0; are_extreme_equilibria = counted.1; is_text = refl })
+own_text game e h = let counted = pairs-counted game e h in (lines_text counted.0, record { lines = counted.0; are_lines = counted.1; is_text = refl })
 
 -- so has a table whose kept strategies have pairs
 text_by_kept : (t : GameTable) (k : KeptForm) → IsKeptForm t k → (e : VertexPairs) → extreme_pairs (game_of k.table) (Ok e) → (text : List ℕ) × IsExtremeEquilibriaText (game_of t) text

@@ -1,18 +1,13 @@
 -- A list in which nothing stands twice, in another order
-use Rattle.std.proofs.Common.{ℕ, ◌+◌, ◌<◌, ◌≡◌, ◌≢◌, Bool, true, false, nat_eq, ◌&&◌, List, length, get_or, Decides, refl, sym, ap, ap₂, arith, tests}
+use Rattle.std.proofs.Common.{ℕ, ◌+◌, ◌<◌, ◌≡◌, ◌≢◌, Bool, true, false, nat_eq, ◌&&◌, List, length, get_or, Decides, refl, sym, ap, ap₂, arith}
 use Rattle.std.specs.Prelude.{IsPermutation}
 use Rattle.std.specs.List.{AllPairs}
 use Rattle.std.proofs.lemmas.Map.Made.{IsDistinct-from_AllPairs}
 use Rattle.std.proofs.lemmas.Map.Keys.{IsDistinct-IsPermutation, apart_from_distinct}
+use Rattle.label_pairing.proofs.AllPairLemmas.{parts_in, parts_out}
 
 abbrev pair_eq : ℕ × ℕ → ℕ × ℕ → Bool
 pair_eq p q = nat_eq p.0 q.0 && nat_eq p.1 q.1
-
-pub parts_out : (a b c d : ℕ) → nat_eq a c && nat_eq b d ≡ true → (a ≡ c) × (b ≡ d)
-parts_out a b c d e = grind (arith, tests)
-
-pub parts_in : (a b c d : ℕ) → a ≡ c → b ≡ d → nat_eq a c && nat_eq b d ≡ true
-parts_in a b c d e f = grind (arith, tests)
 
 decided : (p q : ℕ × ℕ) → Decides (pair_eq p q) (p ≡ q)
 decided p q = (λ e. let r = parts_out p.0 p.1 q.0 q.1 e in ap₂ (λ i j. (i, j)) r.0 r.1, λ e. parts_in p.0 p.1 q.0 q.1 (ap (λ (r : ℕ × ℕ). r.0) e) (ap (λ (r : ℕ × ℕ). r.1) e))

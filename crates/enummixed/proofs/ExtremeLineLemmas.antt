@@ -33,23 +33,16 @@ use Rattle.reply_polytope.proofs.LeastLemmas.{least_below}
 use Rattle.reply_polytope.proofs.PolytopeLemmas.{ArePolytopesOf}
 use Rattle.basis_enum.specs.Systems.{variable_count}
 use Rattle.label_pairing.specs.Laws.{IsPair}
-use Rattle.label_pairing.specs.Pairs.{mark_at, are_together, all_pairs}
+use Rattle.label_pairing.specs.Pairs.{mark_at, all_pairs}
 use Rattle.label_pairing.specs.Scaling.{IsScalable}
 use Rattle.label_pairing.proofs.AllPairLemmas.{exactly_those, pairs_once}
 use Rattle.enummixed.specs.Order.{line_of, pair_order}
 use Rattle.enummixed.specs.Used.{all_labels, occurs, scaled_used}
 use Rattle.enummixed.proofs.LineOrderLemmas.{before-ordered}
-use Rattle.enummixed.proofs.DistinctListLemmas.{neighbours-differ, parts_in, parts_out}
+use Rattle.enummixed.proofs.DistinctListLemmas.{neighbours-differ}
 
 abbrev none : MarkedPoint
 none = record { low = 0; high = 0; point = [] }
-
--- the test tells whether two marks together have all labels
-labels_out : (n : ℕ) (one two : MarkedPoint) → are_together (all_labels n) one two ≡ true → HaveAllLabels n one two
-labels_out n one two e = let w = parts_out _ _ _ _ e in record { low = w.0; high = w.1 }
-
-labels_in : (n : ℕ) (one two : MarkedPoint) → HaveAllLabels n one two → are_together (all_labels n) one two ≡ true
-labels_in n one two h = parts_in _ _ _ _ h.low h.high
 
 -- two lists that begin with equally many entries
 split : (a b c d : List ℚ) → length a ≡ length c → a ++ b ≡ c ++ d → (a ≡ c) × (b ≡ d)
@@ -127,8 +120,8 @@ module _ (n : ℕ) (t u : Tableau) (first second : List MarkedPoint) (vf : AreVe
   line p = line_of firsts seconds p
 
   -- a pair of the list
-  pair-is : (p : ℕ × ℕ) → Contains pairs p → IsPair (all_labels n) first second p.0 p.1
-  pair-is p c = (exactly_those.exactly (all_labels n) first second p.0 p.1).0 (subst (λ ps. Contains ps p) all c)
+  pair-is : (p : ℕ × ℕ) → Contains pairs p → IsPair n first second p.0 p.1
+  pair-is p c = (exactly_those.exactly n first second p.0 p.1).0 (subst (λ ps. Contains ps p) all c)
 
   first-is : (p : ℕ × ℕ) → Contains pairs p → get_or firsts p.0 [] ≡ scaled_point (mark_at first p.0).point
   first-is p c = scaled-at first (occurs (map (λ p. p.0) pairs)) firsts p.0 are_firsts (pair-is p c).in_first (occurs-at (λ p. p.0) pairs p c)
@@ -188,7 +181,7 @@ module _ (n : ℕ) (t u : Tableau) (first second : List MarkedPoint) (vf : AreVe
           two = mark_at second r.0.1;
           is_first = Contains-get_or first r.0.0 none h.in_first;
           is_second = Contains-get_or second r.0.1 none h.in_second;
-          labels = labels_out n (mark_at first r.0.0) (mark_at second r.0.1) h.together;
+          labels = h.labels;
           is_line = sym r.2 ∙ line-is r.0 c;
         }
 
@@ -197,7 +190,7 @@ module _ (n : ℕ) (t u : Tableau) (first second : List MarkedPoint) (vf : AreVe
         let at : mark_at first i ≡ one = get_or_default first i none one h ∙ e in
         let at' : mark_at second j ≡ two = get_or_default second j none two l ∙ f in
         let marks : HaveAllLabels n (mark_at first i) (mark_at second j) = subst (λ x. HaveAllLabels n x (mark_at second j)) (sym at) (subst (λ y. HaveAllLabels n one y) (sym at') labels) in
-        let c : Contains {X = ℕ × ℕ} pairs (i, j) = subst (λ ps. Contains {X = ℕ × ℕ} ps (i, j)) (sym all) ((exactly_those.exactly (all_labels n) first second i j).1 (record { in_first = h; in_second = l; together = labels_in n (mark_at first i) (mark_at second j) marks })) in
+        let c : Contains {X = ℕ × ℕ} pairs (i, j) = subst (λ ps. Contains {X = ℕ × ℕ} ps (i, j)) (sym all) ((exactly_those.exactly n first second i j).1 (record { in_first = h; in_second = l; labels = marks })) in
         subst (λ z. Contains (map line sorted) z) (line-is (i, j) c ∙ ap₂ pair_line at at') (mapped line (i, j) sorted (Contains-permutation pairs sorted (i, j) permuted c))
 
     -- the lines

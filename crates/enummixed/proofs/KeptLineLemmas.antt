@@ -72,7 +72,7 @@ module _ (g h : Game) (first second : List ℕ) (m n : ℕ) (are : g.strategies 
       let lengths = two-same p.m p.n (length first) (length second) h.strategies p.strategies cells.strategies in
       record {
         lines = map (line_of wide wide') sorted;
-        are_extreme_equilibria = wide-lines sorted
+        are_lines = wide-lines sorted
             (λ q c. subst (λ a. ArePointsOf a (length second) firsts seconds q) lengths.0 (subst (λ b. ArePointsOf p.m b firsts seconds q) lengths.1
             (point-lengths h x.0.0 x.0.1 p x.2.0.0.list x.2.0.1.list (both-first x.0.0 x.0.1 x.2.0 x.2.1).2.list (both-second x.0.0 x.0.1 x.2.0 x.2.1).2.list firsts seconds x.2.2.0 (pairs_are (all_labels (variable_count x.0.0)) x.2.0.0.list x.2.0.1.list x.2.2.0 x.2.2.1) f s q (Contains-permutation sorted x.2.2.0 q (IsPermutation-sym x.2.2.0 sorted permuted) c))))
             (extreme-lines h x.0.0 x.0.1 p x.2.0.0.list x.2.0.1.list (both-first x.0.0 x.0.1 x.2.0 x.2.1).2.list (both-second x.0.0 x.0.1 x.2.0 x.2.1).2.list firsts seconds x.2.2.0 sorted (pairs_are (all_labels (variable_count x.0.0)) x.2.0.0.list x.2.0.1.list x.2.2.0 x.2.2.1) f s permuted ordered);

@@ -1,5 +1,5 @@
 -- The stages of a game's pairs, one after another
-use Rattle.std.proofs.Common.{ℕ, ◌<◌, ◌≡◌, List, All, Ok, Err, Result, length, map, get_or, ap, sym, subst, subst₂}
+use Rattle.std.proofs.Common.{ℕ, ◌+◌, ◌<◌, ◌≡◌, ◌∙◌, List, All, Ok, Err, MatchResult, Result, length, map, get_or, ap, ap₂, sym, subst, subst₂}
 use Rattle.std.specs.Prelude.{Contains}
 use Rattle.std.specs.Result.{IsErrAnd}
 use Rattle.std.proofs.lemmas.List.Elements.{Contains-get_or}
@@ -12,7 +12,8 @@ use Rattle.reply_polytope.specs.Stops.{polytopes_in}
 use Rattle.reply_polytope.proofs.EnumerableLemmas.{first_enumerable, second_enumerable}
 use Rattle.reply_polytope.proofs.PolytopeLemmas.{polytopes_of}
 use Rattle.basis_enum.specs.Systems.{variable_count, IsEnumerable}
-use Rattle.basis_enum.specs.Vertices.{VertexList}
+use Rattle.basis_enum.specs.Vertices.{VertexList, marks_of}
+use Rattle.basis_enum.specs.declared.vertex.Vertex.{Vertex}
 use Rattle.basis_enum.specs.Enumeration.{vertices_in}
 use Rattle.label_pairing.specs.Pairs.{all_pairs}
 use Rattle.label_pairing.specs.Stops.{pairs_in}
@@ -36,22 +37,27 @@ two-enumerable game one two p = let e = second_enumerable game one two (polytope
 -- the places of pairs are those of the lists
 pub first-places-in : (all : List ℕ) (first second : List MarkedPoint) (pairs : List (ℕ × ℕ)) → pairs ≡ all_pairs all first second → All (λ p. p.0 < length first) pairs
 first-places-in all first second pairs is =
-    λ k d l. ((exactly_those.exactly all first second (get_or pairs k d).0 (get_or pairs k d).1).0 (subst (λ ps. Contains ps (get_or pairs k d)) is (Contains-get_or pairs k d l))).in_first
+    λ k d l. ((exactly_those.passing all first second (get_or pairs k d).0 (get_or pairs k d).1).0 (subst (λ ps. Contains ps (get_or pairs k d)) is (Contains-get_or pairs k d l))).0
 
 pub second-places-in : (all : List ℕ) (first second : List MarkedPoint) (pairs : List (ℕ × ℕ)) → pairs ≡ all_pairs all first second → All (λ p. p.1 < length second) pairs
 second-places-in all first second pairs is =
-    λ k d l. ((exactly_those.exactly all first second (get_or pairs k d).0 (get_or pairs k d).1).0 (subst (λ ps. Contains ps (get_or pairs k d)) is (Contains-get_or pairs k d l))).in_second
+    λ k d l. ((exactly_those.passing all first second (get_or pairs k d).0 (get_or pairs k d).1).0 (subst (λ ps. Contains ps (get_or pairs k d)) is (Contains-get_or pairs k d l))).1
 
--- the pairs of lists that are read
-pub pairs-as : (l k : List ℕ) (f g s t : List MarkedPoint) (r : Result (List (ℕ × ℕ)) PairStop) → l ≡ k → f ≡ g → s ≡ t → Gives pair_stops.Memory (pairs_in l f s) r → Gives pair_stops.Memory (pairs_in k g t) r
-pairs-as l k f g s t r a b c h =
-    subst (λ l. Gives pair_stops.Memory (pairs_in l g t) r) a (subst₂ (λ f s. Gives pair_stops.Memory (pairs_in l f s) r) b c h)
+-- the pairs of lists that are read, and of the labels of a system that is read
+pub pairs-read : (one : LinearSystem) (basics nonbasics labels : List ℕ) (f g s t : List Vertex) (r : Result (List (ℕ × ℕ)) PairStop) → labels ≡ all_labels (length basics + length nonbasics) → basics ≡ one.basics → nonbasics ≡ one.nonbasics → f ≡ g → s ≡ t → Gives pair_stops.Memory (pairs_in labels (marks_of f) (marks_of s)) r → Gives pair_stops.Memory (pairs_in (all_labels (variable_count one)) (marks_of g) (marks_of t)) r
+pairs-read one basics nonbasics labels f g s t r are b n first second h =
+    subst (λ all. Gives pair_stops.Memory (pairs_in all (marks_of g) (marks_of t)) r) (are ∙ ap₂ (λ xs ys. all_labels (length xs + length ys)) b n) (subst₂ (λ vs ws. Gives pair_stops.Memory (pairs_in labels (marks_of vs) (marks_of ws)) r) first second h)
 
 -- a refusal of the last stage
 pub told-end : {S X Y : Type 0} (memory : S) (told : S → MixedStop) (p : Answer S Y) (stop : S) (answer : Result X MixedStop) (view : X → Y) → Gives memory p (Err stop) → IsErrAnd answer (λ q. q ≡ told stop) → Gives (told memory) (refused_by told p) (map_ok answer view)
 told-end memory told p stop (Ok x) view g e = elim e [ ]
 told-end memory told p stop (Err q) view g e =
     subst (λ r. Gives (told memory) (refused_by told p) (Err r)) (sym e) (gives_refused memory told p (Err stop) g)
+
+-- an answer whose refusals are told
+pub told-whole : {S X Y : Type 0} (memory : S) (told : S → MixedStop) (p : Answer S Y) (r : Result X S) (answer : Result X MixedStop) (view : X → Y) → Gives memory p (map_ok r view) → MatchResult r (λ x. answer ≡ Ok x) (λ e. IsErrAnd answer (λ q. q ≡ told e)) → Gives (told memory) (refused_by told p) (map_ok answer view)
+told-whole memory told p (Ok x) answer view g e = subst (λ a. Gives (told memory) (refused_by told p) (map_ok a view)) (sym e) g
+told-whole memory told p (Err stop) answer view g e = told-end memory told p stop answer view g e
 
 -- ---- the stages that are left
 abbrev pub value : VertexList → VertexList → List (ℕ × ℕ) → VertexPairs

@@ -113,20 +113,20 @@ module _ (list : List MarkedPoint) (places : List ℕ) (flags : List Bool) (are 
       let at : i ≡ k = get_or-range_with_len 0 (length list) k d l ∙ plus k in
       subst (λ j. is_set flags j ≡ occurs places j) (sym at) (ap (λ xs. get_or xs k false) are ∙ get_or-map-range_with_len (occurs places) 0 (length list) k k false l (omega arith))
 
-  pub used-same : used_points list (is_set flags) ≡ used_points list (occurs places)
+  used-same : used_points list (is_set flags) ≡ used_points list (occurs places)
   used-same = ap (map (λ i. (mark_at list i).point)) (filter_same (is_set flags) (occurs places) (range_with_len 0 (length list)) told)
 
-  pub scaled-same : scaled_used list (is_set flags) ≡ scaled_used list (occurs places)
+  scaled-same : scaled_used list (is_set flags) ≡ scaled_used list (occurs places)
   scaled-same =
       map_same (λ i. cond (is_set flags i) (scaled_point (mark_at list i).point) []) (λ i. cond (occurs places i) (scaled_point (mark_at list i).point) []) (range_with_len 0 (length list)) (λ k d h. ap (λ b. cond b (scaled_point (mark_at list (get_or (range_with_len 0 (length list)) k d)).point) []) (told k d h))
 
--- flags that tell which vertices of a list that is read occur
-module _ (vs ws : List Vertex) (read : vs ≡ ws) (places : List ℕ) (flags : List Bool) (are : flags ≡ map (occurs places) (range_with_len 0 (length ws))) where
-  are-marks : flags ≡ map (occurs places) (range_with_len 0 (length (marks_of ws)))
-  are-marks = are ∙ ap (λ n. map (occurs places) (range_with_len 0 n)) (sym (length-map ws mark_of))
+-- flags that tell which vertices occur
+module _ (vertices : List Vertex) (places : List ℕ) (flags : List Bool) (are : flags ≡ map (occurs places) (range_with_len 0 (length vertices))) where
+  are-marks : flags ≡ map (occurs places) (range_with_len 0 (length (marks_of vertices)))
+  are-marks = are ∙ ap (λ n. map (occurs places) (range_with_len 0 n)) (sym (length-map vertices mark_of))
 
-  pub used-read : used_points (marks_of vs) (is_set flags) ≡ used_points (marks_of ws) (occurs places)
-  used-read = ap (λ us. used_points (marks_of us) (is_set flags)) read ∙ used-same (marks_of ws) places flags are-marks
+  pub used-vertices : used_points (marks_of vertices) (is_set flags) ≡ used_points (marks_of vertices) (occurs places)
+  used-vertices = used-same (marks_of vertices) places flags are-marks
 
-  pub scaled-read : scaled_used (marks_of vs) (is_set flags) ≡ scaled_used (marks_of ws) (occurs places)
-  scaled-read = ap (λ us. scaled_used (marks_of us) (is_set flags)) read ∙ scaled-same (marks_of ws) places flags are-marks
+  pub scaled-vertices : scaled_used (marks_of vertices) (is_set flags) ≡ scaled_used (marks_of vertices) (occurs places)
+  scaled-vertices = scaled-same (marks_of vertices) places flags are-marks

@@ -56,7 +56,7 @@ sorted-text game e h firsts seconds sorted =
     (sym (parts_same _ _ h.2.2.2.2.2))
     (λ f s permuted ordered. record {
       lines = map (line_of firsts seconds) sorted;
-      are_extreme_equilibria = extreme-lines game h.0.0 h.0.1 (polytopes_of game h.0.0 h.0.1 h.1) h.2.0.0.list h.2.0.1.list (both-first h.0.0 h.0.1 h.2.0 h.2.1).2.list (both-second h.0.0 h.0.1 h.2.0 h.2.1).2.list firsts seconds h.2.2.0 sorted (pairs_are (all_labels (variable_count h.0.0)) h.2.0.0.list h.2.0.1.list h.2.2.0 h.2.2.1) f s permuted ordered;
+      are_lines = extreme-lines game h.0.0 h.0.1 (polytopes_of game h.0.0 h.0.1 h.1) h.2.0.0.list h.2.0.1.list (both-first h.0.0 h.0.1 h.2.0 h.2.1).2.list (both-second h.0.0 h.0.1 h.2.0 h.2.1).2.list firsts seconds h.2.2.0 sorted (pairs_are (all_labels (variable_count h.0.0)) h.2.0.0.list h.2.0.1.list h.2.2.0 h.2.2.1) f s permuted ordered;
       is_text = refl;
     })
 
@@ -78,7 +78,7 @@ within-weaker P Q more (Err stop) (inr (inr h)) = inr (inr (h.0, more h.0 h.1, h
 
 -- the stages of a text are single
 text-same : (game : Game) (one other : List ℕ) → IsExtremeEquilibriaText game one → IsExtremeEquilibriaText game other → one ≡ other
-text-same game one other h k = h.is_text ∙ ap lines_text (extreme_equilibria-determined game h.lines k.lines h.are_extreme_equilibria k.are_extreme_equilibria) ∙ sym k.is_text
+text-same game one other h k = h.is_text ∙ ap lines_text (extreme_equilibria-determined game h.lines k.lines h.are_lines k.are_lines) ∙ sym k.is_text
 
 scaling-single : (points : List (List ℚ)) → IsSingle (scaling_in points)
 scaling-single points = refused_by-single _ _ (all_fit-single scale_steps points)

@@ -11,8 +11,8 @@ abbrev pub ExtremePairsAreAnswered : Type 0
 ExtremePairsAreAnswered =
     (game : Game) → All (λ n. 0 < n) game.strategies → IsAnswered (extreme_pairs game)
 
--- Such a game has a text, or a reason why it has none. So has a table, where its text is found by the
--- pairs of the table over the kept strategies.
+-- Such a game has a text, or a reason why it has none. So has a table, where its text is found by
+-- the pairs of the table over the kept strategies.
 pub record ExtremeTextsAreAnswered : Type 0 where
   pub own : (game : Game) → All (λ n. 0 < n) game.strategies → IsAnswered (extreme_text game)
   pub by_kept : (table : GameTable) (kept : KeptForm) → IsTable table → IsKeptForm table kept

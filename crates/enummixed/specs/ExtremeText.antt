@@ -1,9 +1,8 @@
 -- The text of `gambit enummixed`, and why there is none (Avis et al. 2010)
-use Rattle.std.specs.Prelude.{ℕ, ◌≡◌, List, map}
+use Rattle.std.specs.Prelude.{ℕ, List, map}
 use Rattle.answers.specs.Answers.{Answer, only, ◌>>=◌, ◌>>◌, refused_by}
-use Rattle.rational.specs.Rational.{ℚ}
 use Rattle.game_theory.specs.Profiles.{Game}
-use Rattle.game_theory.specs.Lines.{lines_text}
+use Rattle.game_theory.specs.Lines.{IsTextOf}
 use Rattle.extreme_equilibria.specs.ExtremeEquilibria.{AreExtremeEquilibria}
 use Rattle.enumpure.specs.Stops.{within_text_limit}
 use Rattle.reply_polytope.specs.Stops.{polytopes_in}
@@ -17,10 +16,8 @@ use Rattle.enummixed.specs.Told.{polytopes_stop, pairs_stop, scale_stop, text_st
 use Rattle.enummixed.specs.declared.stop.MixedStop.{MixedStop}
 
 -- the lines of the game's extreme equilibria, one after another
-pub record IsExtremeEquilibriaText (game : Game) (text : List ℕ) : Type 0 where
-  pub lines : List (List ℚ)
-  pub are_extreme_equilibria : AreExtremeEquilibria game lines
-  pub is_text : text ≡ lines_text lines
+abbrev pub IsExtremeEquilibriaText : Game → List ℕ → Type 0
+IsExtremeEquilibriaText game = IsTextOf (AreExtremeEquilibria game)
 
 -- the vertices of both polytopes, and the places of those that together have all labels
 pub record VertexPairs : Type 0 where

@@ -1,11 +1,12 @@
 -- The lines of pairs of places, where each list has its scaled points, and their order
-use Rattle.std.specs.Prelude.{ℕ, ◌≡◌, List, [], ◌∷◌, ◌++◌, length, get_or, IsPermutation, IsSortedBy}
+use Rattle.std.specs.Prelude.{ℕ, ◌≡◌, List, [], ◌∷◌, ◌++◌, length, get_or, map, IsPermutation, IsSortedBy}
 use Rattle.std.specs.List.{range_with_len}
 use Rattle.std.specs.declared.cmp.Ordering.{Ordering}
 use Rattle.std.specs.Ordering.{is_lt, nat_cmp}
 use Rattle.std.specs.Cmp.Lexicographic.{slice_cmp}
 use Rattle.rational.specs.Rational.{ℚ}
 use Rattle.rational.specs.Tests.{cmp_ℚ}
+use Rattle.game_theory.specs.Lines.{lines_text}
 
 -- the line of a pair
 abbrev pub line_of : List (List ℚ) → List (List ℚ) → ℕ × ℕ → List ℚ
@@ -38,3 +39,12 @@ points_of firsts seconds p = get_or firsts p.0 [] ∷ get_or seconds p.1 [] ∷ 
 abbrev pub pair_order : List (List ℚ) → List (List ℚ) → ℕ × ℕ → ℕ × ℕ → Ordering
 pair_order firsts seconds p q =
     slice_cmp (slice_cmp greater_first) (points_of firsts seconds p) (points_of firsts seconds q)
+
+-- the lines of pairs in the order of their points, each with the entries of the wide points at its
+-- places
+pub record IsTextInOrder (pairs : List (ℕ × ℕ)) (firsts seconds wide wide' : List (List ℚ))
+    (text : List ℕ) : Type 0 where
+  pub sorted : List (ℕ × ℕ)
+  pub permutation : IsPermutation pairs sorted
+  pub in_order : IsSortedBy (λ p q. is_lt (pair_order firsts seconds p q)) sorted
+  pub is_text : text ≡ lines_text (map (line_of wide wide') sorted)

@@ -1,5 +1,5 @@
 // The pairs of vertices that make the extreme equilibria of a table.
-ghost use Rattle.std.specs.Prelude.{◌≡◌, ◌<◌, ◌≤◌, ℕ, length, map, IfOk};
+ghost use Rattle.std.specs.Prelude.{◌≡◌, ◌<◌, ◌≤◌, ℕ, All, length, map, IfOk};
 ghost use Rattle.answers.specs.Answers.{Gives, refused_by, map_ok};
 ghost use Rattle.game_core.specs.Table.{game_of};
 ghost use Rattle.basis_enum.specs.Systems.{IsEnumerable};
@@ -12,13 +12,13 @@ ghost use Rattle.enummixed.specs.BothVertices.{both_lists_of, both_vertices_in};
 ghost use Rattle.enummixed.specs.ExtremeText.{extreme_pairs};
 ghost use Rattle.enummixed.specs.Pairs.{pairs_of, AreScaled};
 ghost use Rattle.enummixed.specs.Told.{enumeration_stop, scale_stop};
-ghost use Rattle.enummixed.specs.Used.{is_set, used_points, scaled_used, scaling_in};
+ghost use Rattle.enummixed.specs.Used.{is_set, occurs, used_points, scaled_used, scaling_in};
 ghost use Rattle.basis_enum.specs.declared.stop.EnumerationStop.TheVariants as enum_stops;
 ghost use Rattle.enummixed.specs.declared.stop.MixedStop.TheVariants as stops;
 
-use crate::points::{all_labels, first_used, scaled_points, second_used};
+use crate::points::{scaled_points, sides, used};
 use crate::stop::MixedStop;
-use basis_enum::{EnumerationStop, Vertex, Vertices, enumerate_with};
+use basis_enum::{EnumerationStop, Vertex, Vertices, all_labels, enumerate_with};
 use claims::{FEWEST_SHARED, Helpers, make_room};
 use frac128::Frac;
 use game_core::Table;
@@ -216,10 +216,28 @@ fn scaled(
     ensures scaled { IfOk result (λ points. map (λ v. v.items) points.items
         ≡ scaled_used (marks_of vertices.now) (is_set used.now)) }
 {
-    match scaled_points(alloc, vertices, used) {
-        Ok(points) => Ok(points),
-        Err(stop) => Err(MixedStop::of_scaling(polytope, stop)),
-    }
+    scaled_points(alloc, vertices, used).map_err(|stop| MixedStop::of_scaling(polytope, stop))
+}
+
+// The scaled points of a polytope's vertices at these places.
+fn scaled_at(
+    alloc: Global,
+    polytope: u32,
+    vertices: &[Vertex],
+    places: &[u32],
+) -> Result<Vec<Vec<Frac>>, MixedStop>
+    requires within { All (λ place. place < length vertices.now) places.now }
+    requires scalable { (i : ℕ) → i < length vertices.now
+        → IsScalable (mark_at (marks_of vertices.now) i).point }
+    ensures fit { Gives stops.Memory
+        (refused_by (scale_stop polytope)
+        (scaling_in (used_points (marks_of vertices.now) (occurs places.now))))
+        (map_ok result (λ points. tt)) }
+    ensures scaled { IfOk result (λ points. map (λ v. v.items) points.items
+        ≡ scaled_used (marks_of vertices.now) (occurs places.now)) }
+{
+    let used = used(alloc, places, vertices.len())?;
+    scaled(alloc, polytope, vertices, used.as_slice())
 }
 
 /// The vertices of both polytopes of a table, and the pairs of them that together have all labels,
@@ -249,10 +267,9 @@ pub fn extreme_pairs<R: Threads + Sync, G: Gate>(
     let (first, second) = both_vertices(rt, alloc, &one, &two, workers, gate)?;
     let labels = all_labels(one.basics().len() + one.nonbasics().len());
     let pairs = pairs(rt, alloc, &first.list, &second.list, labels)?;
-    let first_used = first_used(alloc, &pairs, first.list.len())?;
-    let firsts = scaled(alloc, 0, &first.list, &first_used)?;
-    let second_used = second_used(alloc, &pairs, second.list.len())?;
-    let seconds = scaled(alloc, 1, &second.list, &second_used)?;
+    let (first_places, second_places) = sides(alloc, &pairs)?;
+    let firsts = scaled_at(alloc, 0, &first.list, &first_places)?;
+    let seconds = scaled_at(alloc, 1, &second.list, &second_places)?;
     Ok(ExtremePairs {
         first,
         second,

@@ -1,5 +1,5 @@
 // The text of the extreme equilibria of a table, by its pairs or by those of the kept strategies.
-ghost use Rattle.std.specs.Prelude.{◌≤◌, Ok};
+ghost use Rattle.std.specs.Prelude.{◌≤◌, Ok, map};
 ghost use Rattle.answers.specs.Answers.{Gives, map_ok};
 ghost use Rattle.game_theory.specs.Profiles.{Game};
 ghost use Rattle.game_core.specs.Table.{game_of};
@@ -7,6 +7,7 @@ ghost use Rattle.enumpure.specs.Stops.{within_text_limit};
 ghost use Rattle.enumpure.specs.declared.listing.ListStop.TheVariants as list_stops;
 ghost use Rattle.kept_strategies.specs.Kept.{IsKeptForm};
 ghost use Rattle.enummixed.specs.ExtremeText.{IsExtremeEquilibriaText, extreme_pairs as pairs_in, extreme_text, kept_text};
+ghost use Rattle.enummixed.specs.Order.{IsTextInOrder};
 ghost use Rattle.enummixed.specs.Pairs.{pairs_of, AreScaled};
 ghost use Rattle.enummixed.specs.declared.stop.MixedStop.TheVariants as stops;
 
@@ -16,12 +17,33 @@ use crate::spread::spread_points;
 use crate::stop::MixedStop;
 use crate::writing::write_lines;
 use enumpure::ListStop;
+use frac128::Frac;
 use game_core::Table;
 use kept_strategies::Kept;
 use outside::Gate;
 use std::alloc::Global;
 use std::marker::Sync;
 use std::thread::Threads;
+
+// The lines of pairs in the order of their points, each with the entries of the wide points at its
+// places.
+fn text_in_order(
+    alloc: Global,
+    pairs: Vec<(u32, u32)>,
+    firsts: &[Vec<Frac>],
+    seconds: &[Vec<Frac>],
+    wide_firsts: &[Vec<Frac>],
+    wide_seconds: &[Vec<Frac>],
+) -> Result<Vec<u8>, ListStop>
+    ensures { Gives list_stops.Memory (within_text_limit (IsTextInOrder pairs.items
+        (map (λ v. v.items) firsts.now) (map (λ v. v.items) seconds.now)
+        (map (λ v. v.items) wide_firsts.now) (map (λ v. v.items) wide_seconds.now)))
+        (map_ok result (λ text. text.items)) }
+{
+    let mut pairs = pairs;
+    sort_pairs(alloc, &mut pairs, firsts, seconds)?;
+    write_lines(alloc, &pairs, wide_firsts, wide_seconds)
+}
 
 // The lines of the pairs, in order.
 fn text(alloc: Global, extreme: ExtremePairs) -> Result<Vec<u8>, ListStop>
@@ -30,14 +52,10 @@ fn text(alloc: Global, extreme: ExtremePairs) -> Result<Vec<u8>, ListStop>
         → Gives list_stops.Memory (within_text_limit (IsExtremeEquilibriaText game))
         (map_ok result (λ text. text.items)) }
 {
-    let ExtremePairs {
-        mut pairs,
-        firsts,
-        seconds,
-        ..
-    } = extreme;
-    sort_pairs(alloc, &mut pairs, &firsts, &seconds)?;
-    write_lines(alloc, &pairs, &firsts, &seconds)
+    let pairs = extreme.pairs;
+    let firsts = extreme.firsts.as_slice();
+    let seconds = extreme.seconds.as_slice();
+    text_in_order(alloc, pairs, firsts, seconds, firsts, seconds)
 }
 
 // The lines of the pairs of the kept strategies, in order, with 0 at the other strategies.
@@ -53,16 +71,12 @@ fn spread_text(
         → Gives list_stops.Memory (within_text_limit (IsExtremeEquilibriaText (game_of table.now)))
         (map_ok result (λ text. text.items)) }
 {
-    let ExtremePairs {
-        mut pairs,
-        firsts,
-        seconds,
-        ..
-    } = extreme;
-    sort_pairs(alloc, &mut pairs, &firsts, &seconds)?;
-    let wide_firsts = spread_points(alloc, &firsts, kept.first(), table.strategies(0).len())?;
-    let wide_seconds = spread_points(alloc, &seconds, kept.second(), table.strategies(1).len())?;
-    write_lines(alloc, &pairs, &wide_firsts, &wide_seconds)
+    let pairs = extreme.pairs;
+    let firsts = extreme.firsts.as_slice();
+    let seconds = extreme.seconds.as_slice();
+    let wide_firsts = spread_points(alloc, firsts, kept.first(), table.strategies(0).len())?;
+    let wide_seconds = spread_points(alloc, seconds, kept.second(), table.strategies(1).len())?;
+    text_in_order(alloc, pairs, firsts, seconds, &wide_firsts, &wide_seconds)
 }
 
 /// The lines of the extreme equilibria of a table of two players: each equilibrium in which neither

@@ -73,11 +73,12 @@ fn ranks(alloc: Global, points: &[Vec<Frac>]) -> Result<Vec<usize>, Memory>
     let places = sorted_places(alloc, points)?;
     let mut ranks = vec![in alloc; 0; points.len()]?;
     let mut rank = 0;
-    let mut previous = points.len();
+    let mut previous: &[Frac] = &[];
     for place in &places {
-        rank = next_rank(rank, point(points, previous), point(points, *place));
+        let next = point(points, *place);
+        rank = next_rank(rank, previous, next);
         ranks[*place] = rank;
-        previous = *place;
+        previous = next;
     }
     Ok(ranks)
 }

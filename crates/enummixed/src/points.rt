@@ -1,12 +1,12 @@
 // The points of the vertices that stand in a pair, scaled.
-ghost use Rattle.std.specs.Prelude.{◌≡◌, ◌-◌, ◌<◌, ◌≤◌, ◌^◌, ℕ, All, length, map, IfOk};
+ghost use Rattle.std.specs.Prelude.{◌≡◌, ◌<◌, ℕ, All, length, map, IfOk};
 ghost use Rattle.std.specs.List.{range_with_len};
 ghost use Rattle.answers.specs.Answers.{Gives, map_ok};
 ghost use Rattle.basis_enum.specs.Vertices.{marks_of};
 ghost use Rattle.label_pairing.specs.Pairs.{mark_at};
 ghost use Rattle.label_pairing.specs.Scaling.{IsScalable};
 ghost use Rattle.label_pairing.specs.declared.scaling.ScaleStop.TheVariants as stops;
-ghost use Rattle.enummixed.specs.Used.{all_labels as labels_of, occurs, is_set, used_points, scaled_used, scaling_in};
+ghost use Rattle.enummixed.specs.Used.{occurs, is_set, used_points, scaled_used, scaling_in};
 
 use answers::Memory;
 use basis_enum::Vertex;
@@ -14,60 +14,24 @@ use frac128::Frac;
 use label_pairing::{ScaleStop, scale};
 use std::alloc::Global;
 
-// So many ones, at most 64.
-fn ones(count: usize) -> u64
-    requires { count ≤ 64 }
-    ensures { result ≡ 2 ^ count - 1 }
+/// The places of pairs on each side.
+pub(crate) fn sides(alloc: Global, pairs: &[(u32, u32)]) -> Result<(Vec<u32>, Vec<u32>), Memory>
+    ensures { IfOk result (λ sides. (sides.0.items ≡ map (λ pair. pair.0) pairs.now)
+        × (sides.1.items ≡ map (λ pair. pair.1) pairs.now)) }
 {
-    if count == 64 {
-        u64::MAX
-    } else {
-        (1 << count) - 1
-    }
+    let firsts = pairs.iter().map(|pair| pair.0).collect(alloc)?;
+    let seconds = pairs.iter().map(|pair| pair.1).collect(alloc)?;
+    Ok((firsts, seconds))
 }
 
-/// The mask of so many labels, at most 128.
-pub(crate) fn all_labels(count: usize) -> [u64; 2]
-    requires { count ≤ 128 }
-    ensures { result ≡ labels_of count }
-{
-    if count <= 64 {
-        [ones(count), 0]
-    } else {
-        [ones(64), ones(count - 64)]
-    }
-}
-
-/// For each of so many places of the first polytope: whether it stands in one of these pairs.
-pub(crate) fn first_used(
-    alloc: Global,
-    pairs: &[(u32, u32)],
-    count: usize,
-) -> Result<Vec<bool>, Memory>
-    requires { All (λ pair. pair.0 < count) pairs.now }
-    ensures { IfOk result (λ used. used.items
-        ≡ map (occurs (map (λ pair. pair.0) pairs.now)) (range_with_len 0 count)) }
+/// Which of so many places are among these.
+pub(crate) fn used(alloc: Global, places: &[u32], count: usize) -> Result<Vec<bool>, Memory>
+    requires { All (λ place. place < count) places.now }
+    ensures { IfOk result (λ used. used.items ≡ map (occurs places.now) (range_with_len 0 count)) }
 {
     let mut used = vec![in alloc; false; count]?;
-    for pair in pairs {
-        used[pair.0 as usize] = true;
-    }
-    Ok(used)
-}
-
-/// The same of the second polytope.
-pub(crate) fn second_used(
-    alloc: Global,
-    pairs: &[(u32, u32)],
-    count: usize,
-) -> Result<Vec<bool>, Memory>
-    requires { All (λ pair. pair.1 < count) pairs.now }
-    ensures { IfOk result (λ used. used.items
-        ≡ map (occurs (map (λ pair. pair.1) pairs.now)) (range_with_len 0 count)) }
-{
-    let mut used = vec![in alloc; false; count]?;
-    for pair in pairs {
-        used[pair.1 as usize] = true;
+    for place in places {
+        used[*place as usize] = true;
     }
     Ok(used)
 }

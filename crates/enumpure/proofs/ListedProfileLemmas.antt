@@ -49,4 +49,4 @@ ArePureEquilibria-lines_below g best_replies h =
 -- the text of these lines
 pub IsPureEquilibriaText-listed : (g : Game) (best_replies : List Bool) (counts text : List ℕ) → counts ≡ g.strategies → AreMutualBestReplies g best_replies → text ≡ lines_text (lines_below counts best_replies (length best_replies)) → IsPureEquilibriaText g text
 IsPureEquilibriaText-listed g best_replies counts text e h t =
-    record { lines = lines_below g.strategies best_replies (profile_count g.strategies); are_pure_equilibria = ArePureEquilibria-lines_below g best_replies h; is_text = t ∙ ap₂ (λ v w. lines_text (lines_below v best_replies w)) e h.of_each }
+    record { lines = lines_below g.strategies best_replies (profile_count g.strategies); are_lines = ArePureEquilibria-lines_below g best_replies h; is_text = t ∙ ap₂ (λ v w. lines_text (lines_below v best_replies w)) e h.of_each }

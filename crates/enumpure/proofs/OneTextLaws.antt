@@ -32,7 +32,7 @@ text-is P text h = subst P (sym (text-same h.0 text h.2)) h.1
 
 -- the text of a game is determined
 lines-same : (game : Game) (one other : List ℕ) → IsPureEquilibriaText game one → IsPureEquilibriaText game other → one ≡ other
-lines-same game one other h k = h.is_text ∙ ap lines_text (pure_equilibria-determined game h.lines k.lines h.are_pure_equilibria k.are_pure_equilibria) ∙ sym k.is_text
+lines-same game one other h k = h.is_text ∙ ap lines_text (pure_equilibria-determined game h.lines k.lines h.are_lines k.are_lines) ∙ sym k.is_text
 
 pub pure_text-single : (game : Game) → IsSingle (pure_text game)
 pure_text-single game = within_text_limit-single (IsPureEquilibriaText game) (lines-same game)

@@ -24,8 +24,8 @@ pub record IsGreatestInLine (pays : ℕ → ℚ) (first stride n : ℕ) (best : 
   pub upper : (s : ℕ) → s < n → pays (first + stride * s) ≤ℚ best
   pub attained : (s : ℕ) × (s < n) × (best ≡ pays (first + stride * s))
 
--- of the profiles that stand the stride apart only those stay whose payoff reaches the best; what is
--- said of other profiles does not change
+-- of the profiles that stand the stride apart only those stay whose payoff reaches the best; what
+-- is said of other profiles does not change
 pub record KeepsBestInLine (pays : ℕ → ℚ) (first stride n : ℕ) (best : ℚ) (old new : List Bool)
     : Type 0 where
   pub in_line : (s : ℕ) → s < n → IsTrue (plays_best new (first + stride * s))

@@ -23,4 +23,5 @@ pure_text game = within_text_limit (IsPureEquilibriaText game)
 -- the text of the profiles that pass, where the players have these numbers of strategies
 abbrev pub profiles_text : List ℕ → List Bool → Answer ListStop (List ℕ)
 profiles_text counts passes =
-    refused_by stops.TooLarge (limited_text (lines_text (lines_below counts passes (length passes))))
+    refused_by stops.TooLarge
+    (limited_text (lines_text (lines_below counts passes (length passes))))

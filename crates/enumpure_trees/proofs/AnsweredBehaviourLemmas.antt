@@ -82,4 +82,4 @@ module _ (t : Tree) (strategies : List (List (List ℕ))) (passes : List Bool) (
 pub behaviour_text-answered : (t : Tree) (strategies : List (List (List ℕ))) → IsTree t → AreStrategies t strategies → IsAnswered (behaviour_text t strategies)
 behaviour_text-answered t strategies w a = within_text_limit-answered (IsTreeEquilibriaText t strategies) (λ none.
     flags_below (λ n. AreOfEquilibrium t strategies (profile_at (action_counts t) n)) (profile_count (action_counts t)) (λ passes.
-    none (lines_text (lines t strategies passes.0 w a passes.1)) (record { lines = lines t strategies passes.0 w a passes.1; are_equilibria = lines-are t strategies passes.0 w a passes.1; is_text = refl })))
+    none (lines_text (lines t strategies passes.0 w a passes.1)) (record { lines = lines t strategies passes.0 w a passes.1; are_lines = lines-are t strategies passes.0 w a passes.1; is_text = refl })))

@@ -9,7 +9,7 @@ use Rattle.game_theory.specs.Lines.{lines_text}
 use Rattle.game_theory.proofs.LineOrderLemmas.{AreInOrder-determined}
 use Rattle.game_theory.proofs.ProfileLineLemmas.{entries_pure-injective}
 use Rattle.game_theory.specs.Trees.{Tree, IsTree}
-use Rattle.game_theory.specs.Behaviour.{pure}
+use Rattle.game_theory.specs.Behaviour.{pure, IsWholeChoice}
 use Rattle.reduced_strategies.specs.Choices.{choice_at}
 use Rattle.reduced_strategies.specs.StrategicForm.{AreStrategies, completed}
 use Rattle.reduced_strategies.proofs.SetLemmas.{choice_at-map}
@@ -24,19 +24,15 @@ use Rattle.game_theory.proofs.PlayerSetLemmas.{IsProfile-whole, player_sets-has,
 values-same : (f g : ℕ → ℕ) (sets : List ℕ) (s : ℕ) → map f sets ≡ map g sets → IsAmong sets s → f s ≡ g s
 values-same f g sets s e m = sym (choice_at-map f sets s m) ∙ ap (λ x. choice_at sets x s) e ∙ choice_at-map g sets s m
 
--- an action at each player's set
-abbrev pub AreActions : Tree → (ℕ → ℕ) → Type 0
-AreActions t choice = (s i : ℕ) → s < t.sets → t.owner s ≡ Some i → choice s < t.actions s
-
 -- equal lines are of equal actions
-entries-tell : (t : Tree) (f g : ℕ → ℕ) (s i : ℕ) → IsTree t → AreActions t f → AreActions t g → tree_entries t (pure f) ≡ tree_entries t (pure g) → s < t.sets → t.owner s ≡ Some i → f s ≡ g s
+entries-tell : (t : Tree) (f g : ℕ → ℕ) (s i : ℕ) → IsTree t → IsWholeChoice t f → IsWholeChoice t g → tree_entries t (pure f) ≡ tree_entries t (pure g) → s < t.sets → t.owner s ≡ Some i → f s ≡ g s
 entries-tell t f g s i w a b e l o =
     let same = sym (tree_entries-profile t f) ∙ e ∙ tree_entries-profile t g in
     let values = entries_pure-injective (map t.actions (player_sets t)) (map f (player_sets t)) (map g (player_sets t)) (IsProfile-whole t f a) (IsProfile-whole t g b) same in
     values-same f g (player_sets t) s values (player_sets-has t s i w l o)
 
 -- a completed profile has an action at each player's set
-pub completed-actions : (t : Tree) (strategies : List (List (List ℕ))) (profile : List ℕ) → IsTree t → AreStrategies t strategies → IsProfile (map length strategies) profile → AreActions t (completed t strategies profile)
+pub completed-actions : (t : Tree) (strategies : List (List (List ℕ))) (profile : List ℕ) → IsTree t → AreStrategies t strategies → IsProfile (map length strategies) profile → IsWholeChoice t (completed t strategies profile)
 completed-actions t strategies profile w a f s i l o = (first_actions-complete t strategies profile w a f s i l o).0
 
 -- two profiles never have the same line
@@ -59,4 +55,4 @@ equilibria-determined t strategies one other p q =
 -- a tree has at most one text of equilibria
 pub text-determined : OneTextOfEquilibria
 text-determined t strategies one other p q =
-    p.is_text ∙ ap lines_text (equilibria-determined t strategies p.lines q.lines p.are_equilibria q.are_equilibria) ∙ sym q.is_text
+    p.is_text ∙ ap lines_text (equilibria-determined t strategies p.lines q.lines p.are_lines q.are_lines) ∙ sym q.is_text

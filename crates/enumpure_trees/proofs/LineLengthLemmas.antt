@@ -6,17 +6,17 @@ use Rattle.game_theory.specs.TreeEntries.{tree_entries}
 use Rattle.game_theory.specs.Profiles.{IsProfile}
 use Rattle.game_theory.specs.Lines.{line_text}
 use Rattle.game_theory.specs.Trees.{Tree, IsTree}
-use Rattle.game_theory.specs.Behaviour.{pure}
+use Rattle.game_theory.specs.Behaviour.{pure, IsWholeChoice}
 use Rattle.reduced_strategies.specs.StrategicForm.{AreStrategies, completed}
 use Rattle.enumpure.proofs.LineLengthLemmas.{length-line_none, length-line_text}
 use Rattle.enumpure.proofs.ProfilePartLemmas.{HaveStrategies-profile}
 use Rattle.enumpure_trees.specs.TreeEquilibria.{profile_line}
-use Rattle.enumpure_trees.proofs.EquilibriumLineLemmas.{AreActions, completed-actions}
+use Rattle.enumpure_trees.proofs.EquilibriumLineLemmas.{completed-actions}
 use Rattle.game_theory.specs.OwnSets.{player_sets}
 use Rattle.game_theory.proofs.PlayerSetLemmas.{IsProfile-whole, tree_entries-profile}
 
 -- the lines of two choices of actions are of one length
-lengths-same : (t : Tree) (f g : ℕ → ℕ) → AreActions t f → AreActions t g → length (line_text (tree_entries t (pure f))) ≡ length (line_text (tree_entries t (pure g)))
+lengths-same : (t : Tree) (f g : ℕ → ℕ) → IsWholeChoice t f → IsWholeChoice t g → length (line_text (tree_entries t (pure f))) ≡ length (line_text (tree_entries t (pure g)))
 lengths-same t f g a b = go (cases_eq (sum_by (λ n. n) counts) 0)
   where
     counts : List ℕ

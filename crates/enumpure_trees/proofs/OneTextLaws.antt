@@ -36,7 +36,7 @@ lines-within agents perfect t one other p q z c =
 -- the choices that pass have at most one text
 texts-same : (agents perfect : Bool) (t : Tree) (one other : List ℕ) → IsPassingText agents perfect t one → IsPassingText agents perfect t other → one ≡ other
 texts-same agents perfect t one other p q =
-    p.is_text ∙ ap lines_text (AreInOrder-determined p.lines q.lines p.are_passing.in_order q.are_passing.in_order (lines-within agents perfect t p.lines q.lines p.are_passing q.are_passing) (lines-within agents perfect t q.lines p.lines q.are_passing p.are_passing)) ∙ sym q.is_text
+    p.is_text ∙ ap lines_text (AreInOrder-determined p.lines q.lines p.are_lines.in_order q.are_lines.in_order (lines-within agents perfect t p.lines q.lines p.are_lines q.are_lines) (lines-within agents perfect t q.lines p.lines q.are_lines p.are_lines)) ∙ sym q.is_text
 
 -- the values have at most one answer
 values-single : (t : Tree) (nodes : List ℕ) → IsSingle (values_in t nodes)

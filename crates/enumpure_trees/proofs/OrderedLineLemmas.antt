@@ -11,14 +11,14 @@ use Rattle.game_theory.specs.Lines.{StandsBefore}
 use Rattle.game_theory.proofs.ProfileLineLemmas.{StandsBefore-entries}
 use Rattle.game_theory.proofs.ProfileNumberLemmas.{length-profile, profile-below}
 use Rattle.game_theory.specs.Trees.{Tree, IsTree}
-use Rattle.game_theory.specs.Behaviour.{pure}
+use Rattle.game_theory.specs.Behaviour.{pure, IsWholeChoice}
 use Rattle.reduced_strategies.specs.Choices.{choice_at}
 use Rattle.reduced_strategies.specs.StrategicForm.{AreStrategies, list_of, completed}
 use Rattle.reduced_strategies.proofs.SetLemmas.{choice_at-first, choice_at-later}
 use Rattle.reduced_strategies.proofs.StrategyProfileLemmas.{given_at-own, list_of-reduced, strategies-count}
 use Rattle.enumpure_trees.specs.Orders.{completed_list, completed_of, AreOrders}
 use Rattle.enumpure_trees.specs.TreeEquilibria.{profile_line}
-use Rattle.enumpure_trees.proofs.EquilibriumLineLemmas.{AreActions, completed-actions}
+use Rattle.enumpure_trees.proofs.EquilibriumLineLemmas.{completed-actions}
 use Rattle.enumpure_trees.proofs.OrderedProfileLemmas.{order-of, IsProfile-ordered, get_or-ordered}
 use Rattle.game_theory.proofs.PlayerSetLemmas.{IsProfile-whole, sets_from, tree_entries-profile}
 
@@ -80,7 +80,7 @@ module _ (t : Tree) (f g : ℕ → ℕ) (k : ℕ) (same : (j : ℕ) → j < k �
       ])
 
   -- and their line stands before
-  entries-before : k < t.players → AreActions t f → AreActions t g → StandsBefore (tree_entries t (pure f)) (tree_entries t (pure g))
+  entries-before : k < t.players → IsWholeChoice t f → IsWholeChoice t g → StandsBefore (tree_entries t (pure f)) (tree_entries t (pure g))
   entries-before l a b =
       subst₂ (λ x y. StandsBefore x y) (sym (tree_entries-profile t f)) (sym (tree_entries-profile t g)) (StandsBefore-entries (map t.actions (player_sets t)) (map f (player_sets t)) (map g (player_sets t)) (IsProfile-whole t f a) (IsProfile-whole t g b) (sets_from-before 0 t.players (omega arith) (omega arith)))
 

@@ -82,4 +82,4 @@ module _ (agents perfect : Bool) (t : Tree) (nodes : List ℕ) (passing : List B
   -- and their text is that of these choices
   pub IsPassingText-listed : (counts : List ℕ) → counts ≡ action_counts t → IsPassingText agents perfect t (lines_text (lines_below counts passing (length passing)))
   IsPassingText-listed counts e =
-      record { lines = lines_below (action_counts t) passing (profile_count (action_counts t)); are_passing = ArePassingLines-lines_below; is_text = ap (λ v. lines_text (lines_below v passing (length passing))) e ∙ ap (λ v. lines_text (lines_below (action_counts t) passing v)) h.of_each }
+      record { lines = lines_below (action_counts t) passing (profile_count (action_counts t)); are_lines = ArePassingLines-lines_below; is_text = ap (λ v. lines_text (lines_below v passing (length passing))) e ∙ ap (λ v. lines_text (lines_below (action_counts t) passing v)) h.of_each }

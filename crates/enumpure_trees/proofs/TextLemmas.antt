@@ -42,7 +42,7 @@ pub IsTreeEquilibriaText-listed : (t : GameTree) (form : ReducedForm) (orders : 
     → IsTreeEquilibriaText (game_of_tree t) form.choices text
 IsTreeEquilibriaText-listed t form orders best_replies text h e = record {
   lines = lines_below (game_of_tree t) form.choices orders (plays_best best_replies) (profile_count (map length form.choices));
-  are_equilibria = AreTreeEquilibria-lines_below (game_of_tree t) form.choices orders (plays_best best_replies) h.is_tree h.is_form.are_strategies (AreOrders-sorted form.choices orders h.are_sorted) (AreEquilibria-all_best t form best_replies h.is_form h.are_mutual);
+  are_lines = AreTreeEquilibria-lines_below (game_of_tree t) form.choices orders (plays_best best_replies) h.is_tree h.is_form.are_strategies (AreOrders-sorted form.choices orders h.are_sorted) (AreEquilibria-all_best t form best_replies h.is_form h.are_mutual);
   is_text = e ∙ ap (λ n. lines_text (lines_below (game_of_tree t) form.choices orders (plays_best best_replies) n)) (length-best_replies t form best_replies h.is_form h.are_mutual);
 }
 

@@ -1,5 +1,5 @@
--- Which choices pass: equilibria at the nodes at which they are tested, of the players or of the agent
--- form. Source: Selten 1965, 1975.
+-- Which choices pass: equilibria at the nodes at which they are tested, of the players or of the
+-- agent form. Source: Selten 1965, 1975.
 use Rattle.std.specs.Prelude.{ℕ, ◌<◌, ◌≡◌, ◌==◌, if◌then◌else◌, Bool, true, false, Some}
 use Rattle.rational.specs.Rational.{◌≤ℚ◌}
 use Rattle.game_theory.specs.Behaviour.{Behaviour, pure, value}

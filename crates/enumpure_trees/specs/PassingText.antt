@@ -1,7 +1,7 @@
 -- The lines of the choices that pass.
 use Rattle.std.specs.Prelude.{ℕ, ◌≡◌, Bool, List, All, Contains}
 use Rattle.game_theory.specs.Behaviour.{pure, IsWholeChoice}
-use Rattle.game_theory.specs.Lines.{AreInOrder, lines_text}
+use Rattle.game_theory.specs.Lines.{AreInOrder, IsTextOf}
 use Rattle.game_theory.specs.TreeEntries.{tree_entries}
 use Rattle.game_theory.specs.Trees.{Tree}
 use Rattle.rational.specs.Rational.{ℚ}
@@ -18,7 +18,8 @@ pub record IsPassingLine (agents perfect : Bool) (t : Tree) (line : List ℚ) : 
   pub passes : Passes agents perfect t choice
   pub is_line : line ≡ choice_line t choice
 
--- The lines of the choices that pass: in order, each the line of one, and each of these has its line.
+-- The lines of the choices that pass: in order, each the line of one, and each of these has its
+-- line.
 pub record ArePassingLines (agents perfect : Bool) (t : Tree) (lines : List (List ℚ)) : Type 0 where
   pub in_order : AreInOrder lines
   pub sound : All (IsPassingLine agents perfect t) lines
@@ -26,7 +27,5 @@ pub record ArePassingLines (agents perfect : Bool) (t : Tree) (lines : List (Lis
       → Contains lines (choice_line t choice)
 
 -- the lines one after another
-pub record IsPassingText (agents perfect : Bool) (t : Tree) (text : List ℕ) : Type 0 where
-  pub lines : List (List ℚ)
-  pub are_passing : ArePassingLines agents perfect t lines
-  pub is_text : text ≡ lines_text lines
+abbrev pub IsPassingText : Bool → Bool → Tree → List ℕ → Type 0
+IsPassingText agents perfect t = IsTextOf (ArePassingLines agents perfect t)

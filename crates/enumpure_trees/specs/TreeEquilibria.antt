@@ -5,7 +5,7 @@ use Rattle.rational.specs.Rational.{ℚ}
 use Rattle.game_theory.specs.Profiles.{IsProfile}
 use Rattle.game_theory.specs.Mixed.{pure as pure_profile}
 use Rattle.game_theory.specs.Equilibrium.{IsEquilibrium as is_table_equilibrium}
-use Rattle.game_theory.specs.Lines.{AreInOrder, lines_text}
+use Rattle.game_theory.specs.Lines.{AreInOrder, IsTextOf}
 use Rattle.game_theory.specs.Trees.{Tree}
 use Rattle.game_theory.specs.Behaviour.{pure}
 use Rattle.game_theory.specs.TreeEquilibrium.{IsEquilibrium}
@@ -41,8 +41,5 @@ pub record AreTreeEquilibria (t : Tree) (strategies : List (List (List ℕ)))
       → IsFormEquilibrium t strategies profile → Contains lines (profile_line t strategies profile)
 
 -- the lines one after another
-pub record IsTreeEquilibriaText (t : Tree) (strategies : List (List (List ℕ))) (text : List ℕ)
-    : Type 0 where
-  pub lines : List (List ℚ)
-  pub are_equilibria : AreTreeEquilibria t strategies lines
-  pub is_text : text ≡ lines_text lines
+abbrev pub IsTreeEquilibriaText : Tree → List (List (List ℕ)) → List ℕ → Type 0
+IsTreeEquilibriaText t strategies = IsTextOf (AreTreeEquilibria t strategies)

@@ -1,5 +1,5 @@
 // The text of the choices that pass.
-ghost use Rattle.std.specs.Prelude.{◌≡◌, Bool};
+ghost use Rattle.std.specs.Prelude.{Bool};
 ghost use Rattle.answers.specs.Answers.{Gives, IsSingle, map_ok};
 ghost use Rattle.answers.specs.Answered.{IsAnswered};
 ghost use Rattle.game_core.specs.TreeGame.{game_of_tree};

@@ -12,7 +12,7 @@ use Rattle.game_theory.proofs.ReplyLemmas.{IsEquilibrium-same}
 use Rattle.extreme_equilibria.proofs.TwoPlayerLemmas.{with_part-at, with_part-other}
 use Rattle.extreme_equilibria.specs.Elimination.{IsKept}
 use Rattle.extreme_equilibria.specs.KeptTable.{AreKeptLists, kept_table, at_kept, IsZeroAtRemoved}
-use Rattle.extreme_equilibria.specs.ExtremeEquilibria.{with_part, IsMidpoint, AreSame, IsExtremeEquilibrium}
+use Rattle.extreme_equilibria.specs.ExtremeEquilibria.{with_part, IsMidpoint, IsNoMidpoint, IsExtremeEquilibrium}
 use Rattle.extreme_equilibria.specs.KeptLaws.{ExtremeEquilibriaOfTheKeptTable, ProfilesAreSpread}
 use Rattle.extreme_equilibria.proofs.RoundLemmas.{kept-within}
 use Rattle.extreme_equilibria.proofs.KeptListLemmas.{place, contains_or_not, one_place, ascending-apart}
@@ -89,12 +89,11 @@ module _ (g : Game) (kept : List (List ℕ)) (m : Mixed) (two : length g.strateg
       h : IsZeroAtRemoved g m × IsEquilibrium (kept_table g kept) (at_kept kept m)
       h = (equilibria-kept g kept m two lists).0 e.equilibrium
 
-      alone : (i : ℕ) (p q : ℕ → ℚ) → i < length (kept_table g kept).strategies → IsEquilibrium (kept_table g kept) (with_part (at_kept kept m) i p) → IsEquilibrium (kept_table g kept) (with_part (at_kept kept m) i q)
-          → IsMidpoint (get_or (kept_table g kept).strategies i 0) p q (at_kept kept m i) → AreSame (get_or (kept_table g kept).strategies i 0) p q
-      alone i p q b first second mid k c =
+      alone : (i : ℕ) → i < length (kept_table g kept).strategies → IsNoMidpoint (get_or (kept_table g kept).strategies i 0) (λ p. IsEquilibrium (kept_table g kept) (with_part (at_kept kept m) i p)) (at_kept kept m i)
+      alone i b p q first second mid k c =
           let l : i < 2 = omega (arith, b, table-two g kept two lists) in
           let inside : k < length (get_or kept i []) = omega (arith, c, kept-count kept i) in
-          let one = e.alone i (spread (get_or kept i []) p) (spread (get_or kept i []) q) (omega arith) (part-from_table h.0 i p l first) (part-from_table h.0 i q l second) (middle i l p q mid) in
+          let one = e.alone i (omega arith) (spread (get_or kept i []) p) (spread (get_or kept i []) q) (part-from_table h.0 i p l first) (part-from_table h.0 i q l second) (middle i l p q mid) in
           sym (spread-at g kept two lists i l p k inside) ∙ one (get_or (get_or kept i []) k 0) (at_in i k l inside) ∙ spread-at g kept two lists i l q k inside
         where
           at_in : (i k : ℕ) → i < 2 → k < length (get_or kept i []) → get_or (get_or kept i []) k 0 < get_or g.strategies i 0
@@ -112,12 +111,12 @@ module _ (g : Game) (kept : List (List ℕ)) (m : Mixed) (two : length g.strateg
   extreme-from_table : IsZeroAtRemoved g m → IsExtremeEquilibrium (kept_table g kept) (at_kept kept m) → IsExtremeEquilibrium g m
   extreme-from_table off e = record { equilibrium = (equilibria-kept g kept m two lists).1 (off, e.equilibrium); alone = alone }
     where
-      alone : (i : ℕ) (p q : ℕ → ℚ) → i < length g.strategies → IsEquilibrium g (with_part m i p) → IsEquilibrium g (with_part m i q) → IsMidpoint (get_or g.strategies i 0) p q (m i) → AreSame (get_or g.strategies i 0) p q
-      alone i p q b first second mid s c =
+      alone : (i : ℕ) → i < length g.strategies → IsNoMidpoint (get_or g.strategies i 0) (λ p. IsEquilibrium g (with_part m i p)) (m i)
+      alone i b p q first second mid s c =
           let l : i < 2 = omega arith in
           let one = part-to_table i p first in
           let other = part-to_table i q second in
-          let at_places = e.alone i _ _ (omega (arith, l, table-two g kept two lists)) one.1 other.1 (λ k h. mid (get_or (get_or kept i []) k 0) (at_in i k l (omega (arith, h, kept-count kept i)))) in
+          let at_places = e.alone i (omega (arith, l, table-two g kept two lists)) _ _ one.1 other.1 (λ k h. mid (get_or (get_or kept i []) k 0) (at_in i k l (omega (arith, h, kept-count kept i)))) in
           elim (contains_or_not cases_eq (get_or kept i []) s) [
             | inl inside ↦ let at = place (get_or kept i []) s 0 inside in subst (λ x. p x ≡ q x) at.2 (at_places at.0 (omega (arith, at.1, kept-count kept i)))
             | inr none ↦ sym (with_part-at m i p s) ∙ off-list g kept two lists (with_part m i p) one.0 i s l c none ∙ sym (off-list g kept two lists (with_part m i q) other.0 i s l c none) ∙ with_part-at m i q s

@@ -9,8 +9,8 @@ use Rattle.rational.proofs.Linear.{linear, at, ◌⟨+⟩◌, ◌⟨≤⟩◌, �
 use Rattle.rational.proofs.Field.{pos-mul, le-mul_left, *ℚ-inv}
 use Rattle.rational.proofs.Rules.{add-*ℚ}
 use Rattle.rational.proofs.SumLemmas.{sum_to-same, sum_to-add, sum_to-scale}
-use Rattle.extreme_equilibria.specs.ExtremeEquilibria.{AreSame, IsMidpoint}
-use Rattle.extreme_equilibria.specs.Bimatrix.{IsNoMidpoint, gain, mean_gain, IsBimatrixEquilibrium}
+use Rattle.extreme_equilibria.specs.ExtremeEquilibria.{AreSame, IsMidpoint, IsNoMidpoint}
+use Rattle.extreme_equilibria.specs.Bimatrix.{gain, mean_gain, IsBimatrixEquilibrium}
 use Rattle.extreme_equilibria.specs.Polytopes.{IsInPolytope}
 use Rattle.rational.proofs.Field.{le_of_lt, le_of_mul_left}
 use Rattle.rational.proofs.InverseLemmas.{ne_zero_of_pos, *ℚ_cancel, inv_pos}

@@ -9,7 +9,7 @@ use Rattle.game_theory.specs.Profiles.{Game}
 use Rattle.game_theory.specs.Mixed.{Mixed, pure, sure}
 use Rattle.game_theory.specs.Equilibrium.{IsEquilibrium}
 use Rattle.game_theory.proofs.SureStrategyLemmas.{sure-at, sure-other}
-use Rattle.extreme_equilibria.specs.ExtremeEquilibria.{with_part, IsMidpoint, AreSame}
+use Rattle.extreme_equilibria.specs.ExtremeEquilibria.{with_part, IsNoMidpoint}
 use Rattle.extreme_equilibria.specs.Laws.{PureEquilibriaAreExtreme}
 use Rattle.extreme_equilibria.proofs.TwoPlayerLemmas.{with_part-at}
 
@@ -37,9 +37,8 @@ module _ (g : Game) (m : Mixed) (i : ℕ) (p : ℕ → ℚ) (h : IsEquilibrium g
 pub pure-extreme : PureEquilibriaAreExtreme
 pure-extreme g profile h = record { equilibrium = h; alone = alone }
   where
-    alone : (i : ℕ) (p q : ℕ → ℚ) → i < length g.strategies → IsEquilibrium g (with_part (pure profile) i p) → IsEquilibrium g (with_part (pure profile) i q)
-        → IsMidpoint (get_or g.strategies i 0) p q (pure profile i) → AreSame (get_or g.strategies i 0) p q
-    alone i p q l one other middle s k = elim (cases_eq s (get_or profile i 0)) [
+    alone : (i : ℕ) → i < length g.strategies → IsNoMidpoint (get_or g.strategies i 0) (λ p. IsEquilibrium g (with_part (pure profile) i p)) (pure profile i)
+    alone i l p q one other middle s k = elim (cases_eq s (get_or profile i 0)) [
       | inl e ↦
           (let played : pure profile i s ≡ one_ℚ = subst (λ t. sure t s ≡ one_ℚ) e (sure-at s) in
           ones_same (p s) (q s) (part_at_most g (pure profile) i p one l s k) (part_at_most g (pure profile) i q other l s k) (middle s k ∙ ap₂ ◌+ℚ◌ played played))

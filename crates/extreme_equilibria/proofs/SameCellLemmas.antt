@@ -30,7 +30,7 @@ same-extreme : (ns : List ℕ) (u v : ℕ → ℕ → ℚ) (m : Mixed) → SameP
 same-extreme ns u v m same e =
     record {
       equilibrium = same-equilibrium ns u v m same e.equilibrium;
-      alone = λ i p q l first second mid. e.alone i p q l (same-equilibrium ns v u (with_part m i p) (λ i k a b. sym (same i k a b)) first) (same-equilibrium ns v u (with_part m i q) (λ i k a b. sym (same i k a b)) second) mid;
+      alone = λ i l p q first second mid. e.alone i l p q (same-equilibrium ns v u (with_part m i p) (λ i k a b. sym (same i k a b)) first) (same-equilibrium ns v u (with_part m i q) (λ i k a b. sym (same i k a b)) second) mid;
     }
 
 -- a statement on games that goes from payoffs to the same payoffs goes from a game to one with the same cells

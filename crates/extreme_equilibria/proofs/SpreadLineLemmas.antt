@@ -40,7 +40,7 @@ extreme-same : (g : Game) (m n : Mixed) → ((i s : ℕ) → i < length g.strate
 extreme-same g m n same e =
     record {
       equilibrium = IsEquilibrium-same g m n same e.equilibrium;
-      alone = λ i p q l first second mid. e.alone i p q l (part i p first) (part i q second) (λ s b. mid s b ∙ ap₂ (λ x y. x +ℚ y) (sym (same i s l b)) (sym (same i s l b)));
+      alone = λ i l p q first second mid. e.alone i l p q (part i p first) (part i q second) (λ s b. mid s b ∙ ap₂ (λ x y. x +ℚ y) (sym (same i s l b)) (sym (same i s l b)));
     }
   where
     part : (i : ℕ) (p : ℕ → ℚ) → IsEquilibrium g (with_part n i p) → IsEquilibrium g (with_part m i p)

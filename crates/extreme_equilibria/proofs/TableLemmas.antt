@@ -7,7 +7,7 @@ use Rattle.rational.proofs.SumLemmas.{sum_to-same}
 use Rattle.game_theory.specs.Profiles.{Game}
 use Rattle.game_theory.specs.Mixed.{Mixed, payoff}
 use Rattle.game_theory.specs.Equilibrium.{IsEquilibrium}
-use Rattle.extreme_equilibria.specs.ExtremeEquilibria.{with_part, IsMidpoint, AreSame, IsExtremeEquilibrium}
+use Rattle.extreme_equilibria.specs.ExtremeEquilibria.{with_part, IsMidpoint, AreSame, IsNoMidpoint, IsExtremeEquilibrium}
 use Rattle.extreme_equilibria.specs.TwoPlayers.{pays_against}
 use Rattle.extreme_equilibria.proofs.TwoPlayerLemmas as T
 use Rattle.extreme_equilibria.specs.Bimatrix.{gain, mean_gain, IsBimatrixEquilibrium, IsExtremeBimatrixEquilibrium}
@@ -90,17 +90,17 @@ module _ (g : Game) (m n : ℕ) (e : g.strategies ≡ m ∷ n ∷ []) where
   extreme_to_tables k h =
       record {
         equilibrium = to_tables k h.equilibrium;
-        first_alone = λ p q s t mid. subst (λ r. AreSame r p q) first_count (h.alone 0 p q (omega (arith, two)) (with_first k p s) (with_first k q t) (subst (λ r. IsMidpoint r p q (k 0)) (sym first_count) mid));
-        second_alone = λ p q s t mid. subst (λ r. AreSame r p q) second_count (h.alone 1 p q (omega (arith, two)) (with_second k p s) (with_second k q t) (subst (λ r. IsMidpoint r p q (k 1)) (sym second_count) mid));
+        first_alone = λ p q s t mid. subst (λ r. AreSame r p q) first_count (h.alone 0 (omega (arith, two)) p q (with_first k p s) (with_first k q t) (subst (λ r. IsMidpoint r p q (k 0)) (sym first_count) mid));
+        second_alone = λ p q s t mid. subst (λ r. AreSame r p q) second_count (h.alone 1 (omega (arith, two)) p q (with_second k p s) (with_second k q t) (subst (λ r. IsMidpoint r p q (k 1)) (sym second_count) mid));
       }
 
   pub extreme_from_tables : (k : Mixed) → IsExtremeBimatrixEquilibrium m n (pays_against g 0) (pays_against g 1) (k 0) (k 1) → IsExtremeEquilibrium g k
   extreme_from_tables k h = record { equilibrium = from_tables k h.equilibrium; alone = alone }
     where
-      alone : (i : ℕ) (p q : ℕ → ℚ) → i < length g.strategies → IsEquilibrium g (with_part k i p) → IsEquilibrium g (with_part k i q) → IsMidpoint (get_or g.strategies i 0) p q (k i) → AreSame (get_or g.strategies i 0) p q
-      alone zero p q b s t mid = subst (λ r. AreSame r p q) (sym first_count) (h.first_alone p q (first_of k p s) (first_of k q t) (subst (λ r. IsMidpoint r p q (k 0)) first_count mid))
-      alone (suc zero) p q b s t mid = subst (λ r. AreSame r p q) (sym second_count) (h.second_alone p q (second_of k p s) (second_of k q t) (subst (λ r. IsMidpoint r p q (k 1)) second_count mid))
-      alone (suc (suc i)) p q b s t mid = absurd (omega (arith, two, b))
+      alone : (i : ℕ) → i < length g.strategies → IsNoMidpoint (get_or g.strategies i 0) (λ p. IsEquilibrium g (with_part k i p)) (k i)
+      alone zero b p q s t mid = subst (λ r. AreSame r p q) (sym first_count) (h.first_alone p q (first_of k p s) (first_of k q t) (subst (λ r. IsMidpoint r p q (k 0)) first_count mid))
+      alone (suc zero) b p q s t mid = subst (λ r. AreSame r p q) (sym second_count) (h.second_alone p q (second_of k p s) (second_of k q t) (subst (λ r. IsMidpoint r p q (k 1)) second_count mid))
+      alone (suc (suc i)) b p q s t mid = absurd (omega (arith, two, b))
 
 pub equilibria_by_tables : EquilibriaByTables
 equilibria_by_tables g m n k e = (to_tables g m n e k, from_tables g m n e k)

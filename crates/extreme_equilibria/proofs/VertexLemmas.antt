@@ -9,8 +9,8 @@ use Rattle.rational.proofs.Linear.{linear, at, lit, ◌⟨+⟩◌, ◌⟨≤⟩�
 use Rattle.rational.proofs.Field.{le_refl, *ℚ-inv}
 use Rattle.rational.proofs.SumLemmas.{sum_to-same, sum_to-zero}
 use Rattle.linear_systems.specs.Points.{IsNonzero}
-use Rattle.extreme_equilibria.specs.ExtremeEquilibria.{AreSame, IsMidpoint}
-use Rattle.extreme_equilibria.specs.Bimatrix.{IsNoMidpoint, gain, mean_gain, IsBimatrixEquilibrium, IsExtremeBimatrixEquilibrium, IsPositive}
+use Rattle.extreme_equilibria.specs.ExtremeEquilibria.{AreSame, IsMidpoint, IsNoMidpoint}
+use Rattle.extreme_equilibria.specs.Bimatrix.{gain, mean_gain, IsBimatrixEquilibrium, IsExtremeBimatrixEquilibrium, IsPositive}
 use Rattle.extreme_equilibria.specs.Polytopes.{IsInPolytope, IsVertex, IsCompletelyLabelled, IsLabelledPair, IsVertexPair, IsScaledPair, scaled}
 use Rattle.extreme_equilibria.proofs.LabelLemmas.{IsLabelled}
 use Rattle.rational.proofs.InverseLemmas.{ne_zero_of_pos, inv_pos, zero_lt_one}

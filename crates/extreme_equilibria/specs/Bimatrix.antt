@@ -4,7 +4,7 @@
 use Rattle.std.specs.Prelude.{ℕ, ◌<◌}
 use Rattle.rational.specs.Rational.{ℚ, ◌+ℚ◌, ◌*ℚ◌, ◌-ℚ◌, ◌≤ℚ◌, ◌<ℚ◌, zero_ℚ, one_ℚ}
 use Rattle.rational.specs.Sum.{sum_to, IsDistribution}
-use Rattle.extreme_equilibria.specs.ExtremeEquilibria.{AreSame, IsMidpoint}
+use Rattle.extreme_equilibria.specs.ExtremeEquilibria.{IsNoMidpoint}
 
 -- what strategy i gains against the other player's probabilities y of n strategies
 abbrev pub gain : ℕ → (ℕ → ℕ → ℚ) → (ℕ → ℚ) → ℕ → ℚ
@@ -24,10 +24,6 @@ pub record IsBimatrixEquilibrium (m n : ℕ) (a c : ℕ → ℕ → ℚ) (x y : 
   pub second_mixed : IsDistribution n y
   pub first_best : IsBestReply m n a x y
   pub second_best : IsBestReply n m c y x
-
--- z is not the midpoint of two different points of S
-abbrev pub IsNoMidpoint : ℕ → ((ℕ → ℚ) → Type 0) → (ℕ → ℚ) → Type 0
-IsNoMidpoint n S z = (p q : ℕ → ℚ) → S p → S q → IsMidpoint n p q z → AreSame n p q
 
 -- an equilibrium in which neither part is the midpoint of two different ones that make equilibria
 -- with the other part

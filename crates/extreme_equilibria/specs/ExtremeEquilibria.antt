@@ -18,13 +18,16 @@ IsMidpoint n p q z = (s : ℕ) → s < n → p s +ℚ q s ≡ z s +ℚ z s
 abbrev pub AreSame : ℕ → (ℕ → ℚ) → (ℕ → ℚ) → Type 0
 AreSame n p q = (s : ℕ) → s < n → p s ≡ q s
 
+-- z is not the midpoint of two different points of S
+abbrev pub IsNoMidpoint : ℕ → ((ℕ → ℚ) → Type 0) → (ℕ → ℚ) → Type 0
+IsNoMidpoint n S z = (p q : ℕ → ℚ) → S p → S q → IsMidpoint n p q z → AreSame n p q
+
 -- an equilibrium in which no player's part is the midpoint of two different ones that make
 -- equilibria with the others' parts
 pub record IsExtremeEquilibrium (g : Game) (m : Mixed) : Type 0 where
   pub equilibrium : IsEquilibrium g m
-  pub alone : (i : ℕ) (p q : ℕ → ℚ) → i < length g.strategies → IsEquilibrium g (with_part m i p)
-      → IsEquilibrium g (with_part m i q) → IsMidpoint (slice_index g.strategies i) p q (m i)
-      → AreSame (slice_index g.strategies i) p q
+  pub alone : (i : ℕ) → i < length g.strategies
+      → IsNoMidpoint (slice_index g.strategies i) (λ p. IsEquilibrium g (with_part m i p)) (m i)
 
 -- the line of an extreme equilibrium
 pub record IsExtremeEquilibriumLine (g : Game) (line : List ℚ) : Type 0 where

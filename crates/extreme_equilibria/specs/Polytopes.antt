@@ -3,8 +3,8 @@ use Rattle.std.specs.Prelude.{ℕ, ◌+◌, ◌-◌, ◌<◌, ◌≡◌, ◌⊎�
 use Rattle.rational.specs.Rational.{ℚ, ◌*ℚ◌, ◌-ℚ◌, inv_ℚ, ◌≤ℚ◌, zero_ℚ, one_ℚ}
 use Rattle.rational.specs.Sum.{sum_to}
 use Rattle.linear_systems.specs.Points.{IsNonzero}
-use Rattle.extreme_equilibria.specs.ExtremeEquilibria.{AreSame}
-use Rattle.extreme_equilibria.specs.Bimatrix.{gain, IsNoMidpoint}
+use Rattle.extreme_equilibria.specs.ExtremeEquilibria.{AreSame, IsNoMidpoint}
+use Rattle.extreme_equilibria.specs.Bimatrix.{gain}
 
 -- k entries that are not negative, against which none of the other player's r strategies gains more
 -- than 1

@@ -6,9 +6,9 @@ use Rattle.rational.specs.Rational.{ℚ, zero_ℚ}
 use Rattle.game_core.specs.declared.token.Token.{Token}
 use Rattle.game_core.specs.declared.token.Token.TheVariants.{Right, Comma, Text, Number}
 use Rattle.file_parts.specs.Reading.{opening_brace_at, closing_brace_at, text_at, number_at, after_word, version_at, letter_at, texts_at, after_comma, payoff_start}
-use Rattle.file_parts.specs.Parsing.{Parsed, ◌>>=◌, wanted, passed, parse_names, parse_payoff, parse_payoffs, parse_title}
+use Rattle.file_parts.specs.Parsing.{Parsed, ◌>>=◌, wanted, expected_mark, parse_names, parse_payoff, parse_payoffs, parse_title}
 use Rattle.file_parts.proofs.ReaderLemmas.{ReadsAs, IsStuck, IsReader, bind_reader, each_reader, ok_err, ok_same, same_first, stuck_by, same_reader, FaultsAre, bind_faults, pure_faults, each_faults}
-use Rattle.file_parts.proofs.TokenReaderLemmas.{wanted_reader, number_head, opening_brace_reader, text_reader, word_reader, version_reader, letter_reader, wanted_faults, passed_faults}
+use Rattle.file_parts.proofs.TokenReaderLemmas.{wanted_reader, number_head, opening_brace_reader, text_reader, word_reader, version_reader, letter_reader, wanted_faults, expected_mark_faults}
 
 -- no token is left
 pub no_empty : (t : Token) (r : List Token) → [] ≡ t ∷ r → ⊥
@@ -18,9 +18,9 @@ no_empty t r e = cc
 pub title_reader : {K : Type 0} (kind : K) (word : List ℕ) (version : ℕ) → IsReader (parse_title kind word version)
 unfolding parse_title
 title_reader kind word version =
-    bind_reader (λ tokens. passed kind tokens (after_word word tokens)) (λ _ tokens. passed kind tokens (version_at version tokens) >>= λ z. passed kind z.1 (letter_at z.1) >>= λ y. wanted kind y.1 (text_at y.1)) (word_reader kind word)
-    (λ _ _ _. bind_reader (λ tokens. passed kind tokens (version_at version tokens)) (λ _ tokens. passed kind tokens (letter_at tokens) >>= λ y. wanted kind y.1 (text_at y.1)) (version_reader kind version)
-    (λ _ _ _. bind_reader (λ tokens. passed kind tokens (letter_at tokens)) (λ _ tokens. wanted kind tokens (text_at tokens)) (letter_reader kind) (λ _ _ _. text_reader kind)))
+    bind_reader (λ tokens. expected_mark kind tokens (after_word word tokens)) (λ _ tokens. expected_mark kind tokens (version_at version tokens) >>= λ z. expected_mark kind z.1 (letter_at z.1) >>= λ y. wanted kind y.1 (text_at y.1)) (word_reader kind word)
+    (λ _ _ _. bind_reader (λ tokens. expected_mark kind tokens (version_at version tokens)) (λ _ tokens. expected_mark kind tokens (letter_at tokens) >>= λ y. wanted kind y.1 (text_at y.1)) (version_reader kind version)
+    (λ _ _ _. bind_reader (λ tokens. expected_mark kind tokens (letter_at tokens)) (λ _ tokens. wanted kind tokens (text_at tokens)) (letter_reader kind) (λ _ _ _. text_reader kind)))
 
 -- ---- payoffs
 -- a number
@@ -71,7 +71,7 @@ payoffs_reader kind n = each_reader (parse_payoff kind) (payoff_reader kind) 0 n
 -- ---- texts and the closing brace
 -- texts up to a closing brace, seen by f
 unfoldable pub closed_texts : {K X : Type 0} → K → (List (List ℕ) → X) → List Token → Parsed K X
-closed_texts kind f tokens = passed kind (texts_at tokens).1 (closing_brace_at (texts_at tokens).1) >>= λ rest. Ok (f (texts_at tokens).0, rest.1)
+closed_texts kind f tokens = expected_mark kind (texts_at tokens).1 (closing_brace_at (texts_at tokens).1) >>= λ rest. Ok (f (texts_at tokens).0, rest.1)
 
 closed_reads : {K X : Type 0} (kind : K) (f : List (List ℕ) → X) (tokens : List Token) (x : X) (rest : List Token) → closed_texts kind f tokens ≡ Ok (x, rest) → (front : List Token) × (tokens ≡ front ++ rest) × ReadsAs (closed_texts kind f) front x
 unfolding closed_texts
@@ -109,7 +109,7 @@ unfolding some_texts
 some_reader kind = bind_reader (λ tokens. wanted kind tokens (text_at tokens)) (λ t tokens. closed_texts kind (λ ts. t ∷ ts) tokens) (text_reader kind) (λ front t r. closed_reader kind (λ ts. t ∷ ts))
 
 -- names are an opening brace and one or more texts
-names_are : {K : Type 0} (kind : K) (tokens : List Token) → (if nat_eq (length (texts_at tokens).0) 0 then Err (kind, (texts_at tokens).1) else Ok (texts_at tokens)) >>= (λ names. passed kind names.1 (closing_brace_at names.1) >>= λ rest. Ok (names.0, rest.1)) ≡ some_texts kind tokens
+names_are : {K : Type 0} (kind : K) (tokens : List Token) → (if nat_eq (length (texts_at tokens).0) 0 then Err (kind, (texts_at tokens).1) else Ok (texts_at tokens)) >>= (λ names. expected_mark kind names.1 (closing_brace_at names.1) >>= λ rest. Ok (names.0, rest.1)) ≡ some_texts kind tokens
 unfolding some_texts closed_texts
 names_are kind (Text t ∷ tokens) = rw (not_zero (suc (length (texts_at tokens).0)) (omega arith)) refl
 names_are kind tokens = refl
@@ -117,7 +117,7 @@ names_are kind tokens = refl
 -- names in braces
 pub names_reader : {K : Type 0} (kind : K) → IsReader (parse_names kind)
 unfolding parse_names
-names_reader kind = bind_reader (λ tokens. passed kind tokens (opening_brace_at tokens)) (λ _ tokens. (if nat_eq (length (texts_at tokens).0) 0 then Err (kind, (texts_at tokens).1) else Ok (texts_at tokens)) >>= (λ names. passed kind names.1 (closing_brace_at names.1) >>= λ rest. Ok (names.0, rest.1))) (opening_brace_reader kind) (λ front x r. same_reader _ (some_texts kind) (names_are kind) (some_reader kind))
+names_reader kind = bind_reader (λ tokens. expected_mark kind tokens (opening_brace_at tokens)) (λ _ tokens. (if nat_eq (length (texts_at tokens).0) 0 then Err (kind, (texts_at tokens).1) else Ok (texts_at tokens)) >>= (λ names. expected_mark kind names.1 (closing_brace_at names.1) >>= λ rest. Ok (names.0, rest.1))) (opening_brace_reader kind) (λ front x r. same_reader _ (some_texts kind) (names_are kind) (some_reader kind))
 
 -- ---- kinds of faults
 -- the title's
@@ -125,9 +125,9 @@ pub title_faults : {K : Type 0} (kind : K) (word : List ℕ) (version : ℕ) →
 unfolding parse_title
 title_faults {K} kind word version =
     let P : K → List Token → Type 0 = λ k _. k ≡ kind in
-    bind_faults P (λ tokens. passed kind tokens (after_word word tokens)) (λ _ tokens. passed kind tokens (version_at version tokens) >>= λ z. passed kind z.1 (letter_at z.1) >>= λ y. wanted kind y.1 (text_at y.1)) (passed_faults kind (after_word word))
-    (λ _. bind_faults P (λ tokens. passed kind tokens (version_at version tokens)) (λ _ tokens. passed kind tokens (letter_at tokens) >>= λ y. wanted kind y.1 (text_at y.1)) (passed_faults kind (version_at version))
-    (λ _. bind_faults P (λ tokens. passed kind tokens (letter_at tokens)) (λ _ tokens. wanted kind tokens (text_at tokens)) (passed_faults kind letter_at) (λ _. wanted_faults kind text_at)))
+    bind_faults P (λ tokens. expected_mark kind tokens (after_word word tokens)) (λ _ tokens. expected_mark kind tokens (version_at version tokens) >>= λ z. expected_mark kind z.1 (letter_at z.1) >>= λ y. wanted kind y.1 (text_at y.1)) (expected_mark_faults kind (after_word word))
+    (λ _. bind_faults P (λ tokens. expected_mark kind tokens (version_at version tokens)) (λ _ tokens. expected_mark kind tokens (letter_at tokens) >>= λ y. wanted kind y.1 (text_at y.1)) (expected_mark_faults kind (version_at version))
+    (λ _. bind_faults P (λ tokens. expected_mark kind tokens (letter_at tokens)) (λ _ tokens. wanted kind tokens (text_at tokens)) (expected_mark_faults kind letter_at) (λ _. wanted_faults kind text_at)))
 
 -- payoffs'
 pub payoffs_faults : {K : Type 0} (kind : K) (n : ℕ) → FaultsAre (λ k _. k ≡ kind) (parse_payoffs kind n)
@@ -136,7 +136,7 @@ payoffs_faults {K} kind n = each_faults (λ k _. k ≡ kind) (parse_payoff kind)
 -- texts' and the closing brace's
 closed_faults : {K X : Type 0} (kind : K) (f : List (List ℕ) → X) → FaultsAre (λ k _. k ≡ kind) (closed_texts kind f)
 unfolding closed_texts
-closed_faults {K} kind f tokens fault e = bind_faults (λ (k : K) (_ : List Token). k ≡ kind) (λ tokens. passed kind tokens (closing_brace_at tokens)) (λ _ rest. Ok (f (texts_at tokens).0, rest)) (passed_faults kind closing_brace_at) (λ _. pure_faults (λ k _. k ≡ kind) (f (texts_at tokens).0)) (texts_at tokens).1 fault e
+closed_faults {K} kind f tokens fault e = bind_faults (λ (k : K) (_ : List Token). k ≡ kind) (λ tokens. expected_mark kind tokens (closing_brace_at tokens)) (λ _ rest. Ok (f (texts_at tokens).0, rest)) (expected_mark_faults kind closing_brace_at) (λ _. pure_faults (λ k _. k ≡ kind) (f (texts_at tokens).0)) (texts_at tokens).1 fault e
 
 -- one or more texts'
 some_faults : {K : Type 0} (kind : K) → FaultsAre (λ k _. k ≡ kind) (some_texts kind)
@@ -148,5 +148,5 @@ pub names_faults : {K : Type 0} (kind : K) → FaultsAre (λ k _. k ≡ kind) (p
 unfolding parse_names
 names_faults {K} kind =
     let P : K → List Token → Type 0 = λ k _. k ≡ kind in
-    bind_faults P (λ tokens. passed kind tokens (opening_brace_at tokens)) (λ _ tokens. (if nat_eq (length (texts_at tokens).0) 0 then Err (kind, (texts_at tokens).1) else Ok (texts_at tokens)) >>= (λ names. passed kind names.1 (closing_brace_at names.1) >>= λ rest. Ok (names.0, rest.1))) (passed_faults kind opening_brace_at)
+    bind_faults P (λ tokens. expected_mark kind tokens (opening_brace_at tokens)) (λ _ tokens. (if nat_eq (length (texts_at tokens).0) 0 then Err (kind, (texts_at tokens).1) else Ok (texts_at tokens)) >>= (λ names. expected_mark kind names.1 (closing_brace_at names.1) >>= λ rest. Ok (names.0, rest.1))) (expected_mark_faults kind opening_brace_at)
     (λ _ tokens fault e. some_faults kind tokens fault (sym (names_are kind tokens) ∙ e))

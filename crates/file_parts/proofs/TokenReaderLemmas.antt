@@ -10,7 +10,7 @@ use Rattle.game_core.specs.declared.token.Token.{Token}
 use Rattle.game_core.specs.declared.token.Token.TheVariants.{Left, Right, Text, Word, Number}
 use Rattle.file_parts.specs.Parts.{whole_number}
 use Rattle.file_parts.specs.Reading.{opening_brace_at, closing_brace_at, text_at, word_at, number_at, natural_of, whole_at, count_at, after_word, version_at, letter_at, opens}
-use Rattle.file_parts.specs.Parsing.{wanted, passed}
+use Rattle.file_parts.specs.Parsing.{wanted, expected_mark}
 use Rattle.file_parts.proofs.TokenLaws.{count_again, expected_again}
 use Rattle.file_parts.proofs.HeaderLaws.{version_again, letter_again}
 use Rattle.file_parts.proofs.ReaderLemmas.{IsReader, token_reader, FaultsAre, ok_err, err_same}
@@ -41,8 +41,8 @@ wanted_reader kind h H t x is = token_reader _ (record {
 })
 
 -- a mark that must come
-pub passed_reader : {K : Type 0} (kind : K) (h : List Token → Option (List Token)) → IsMark h → (t : Token) → ((rest : List Token) → h (t ∷ rest) ≡ Some rest) → IsReader (λ tokens. passed kind tokens (h tokens))
-passed_reader kind h H t is = token_reader _ (record {
+pub expected_mark_reader : {K : Type 0} (kind : K) (h : List Token → Option (List Token)) → IsMark h → (t : Token) → ((rest : List Token) → h (t ∷ rest) ≡ Some rest) → IsReader (λ tokens. expected_mark kind tokens (h tokens))
+expected_mark_reader kind h H t is = token_reader _ (record {
   token = t;
   value = tt;
   is_read = λ rest. rw (is rest) refl;
@@ -59,16 +59,16 @@ opening_brace_mark Left = inl (λ rest. refl)
 opening_brace_mark _ = inr (λ rest. refl)
 
 -- an opening brace
-pub opening_brace_reader : {K : Type 0} (kind : K) → IsReader (λ tokens. passed kind tokens (opening_brace_at tokens))
-opening_brace_reader kind = passed_reader kind opening_brace_at (record { none = refl; by_token = opening_brace_mark }) Left (λ rest. refl)
+pub opening_brace_reader : {K : Type 0} (kind : K) → IsReader (λ tokens. expected_mark kind tokens (opening_brace_at tokens))
+opening_brace_reader kind = expected_mark_reader kind opening_brace_at (record { none = refl; by_token = opening_brace_mark }) Left (λ rest. refl)
 
 closing_brace_mark : (t : Token) → ((rest : List Token) → closing_brace_at (t ∷ rest) ≡ Some rest) ⊎ ((rest : List Token) → closing_brace_at (t ∷ rest) ≡ None)
 closing_brace_mark Right = inl (λ rest. refl)
 closing_brace_mark _ = inr (λ rest. refl)
 
 -- a closing brace
-pub closing_brace_reader : {K : Type 0} (kind : K) → IsReader (λ tokens. passed kind tokens (closing_brace_at tokens))
-closing_brace_reader kind = passed_reader kind closing_brace_at (record { none = refl; by_token = closing_brace_mark }) Right (λ rest. refl)
+pub closing_brace_reader : {K : Type 0} (kind : K) → IsReader (λ tokens. expected_mark kind tokens (closing_brace_at tokens))
+closing_brace_reader kind = expected_mark_reader kind closing_brace_at (record { none = refl; by_token = closing_brace_mark }) Right (λ rest. refl)
 
 text_head : (t : Token) → ((x : List ℕ) × ((rest : List Token) → text_at (t ∷ rest) ≡ Some (x, rest))) ⊎ ((rest : List Token) → text_at (t ∷ rest) ≡ None)
 text_head (Text text) = inl (text, λ rest. refl)
@@ -140,16 +140,16 @@ unfolding after_word
 after_mark expected = tested_mark word_at (record { none = refl; by_token = word_head }) (λ word. bytes_eq word expected)
 
 -- a word
-pub word_reader : {K : Type 0} (kind : K) (expected : List ℕ) → IsReader (λ tokens. passed kind tokens (after_word expected tokens))
-word_reader kind expected = passed_reader kind (after_word expected) (after_mark expected) (Word expected) (expected_again expected)
+pub word_reader : {K : Type 0} (kind : K) (expected : List ℕ) → IsReader (λ tokens. expected_mark kind tokens (after_word expected tokens))
+word_reader kind expected = expected_mark_reader kind (after_word expected) (after_mark expected) (Word expected) (expected_again expected)
 
 version_mark : (version : ℕ) → IsMark (version_at version)
 unfolding version_at
 version_mark version = tested_mark whole_at whole_is_head (λ n. nat_eq n version)
 
 -- a version
-pub version_reader : {K : Type 0} (kind : K) (version : ℕ) → IsReader (λ tokens. passed kind tokens (version_at version tokens))
-version_reader kind version = passed_reader kind (version_at version) (version_mark version) (whole_number version) (version_again version)
+pub version_reader : {K : Type 0} (kind : K) (version : ℕ) → IsReader (λ tokens. expected_mark kind tokens (version_at version tokens))
+version_reader kind version = expected_mark_reader kind (version_at version) (version_mark version) (whole_number version) (version_again version)
 
 -- one mark or another
 either_mark : (g h : List Token → Option (List Token)) → IsMark g → IsMark h → IsMark (λ tokens. option_or (g tokens) (h tokens))
@@ -165,8 +165,8 @@ either_mark g h G H = record {
 }
 
 -- `R` or `D`
-pub letter_reader : {K : Type 0} (kind : K) → IsReader (λ tokens. passed kind tokens (letter_at tokens))
-letter_reader kind = passed_reader kind letter_at (either_mark (after_word (codes "R")) (after_word (codes "D")) (after_mark (codes "R")) (after_mark (codes "D"))) (Word (codes "R")) (λ rest. letter_again (codes "R") rest (inl refl))
+pub letter_reader : {K : Type 0} (kind : K) → IsReader (λ tokens. expected_mark kind tokens (letter_at tokens))
+letter_reader kind = expected_mark_reader kind letter_at (either_mark (after_word (codes "R")) (after_word (codes "D")) (after_mark (codes "R")) (after_mark (codes "D"))) (Word (codes "R")) (λ rest. letter_again (codes "R") rest (inl refl))
 
 -- ---- kinds of faults
 -- the faults of a part that must come have its kind
@@ -177,8 +177,8 @@ wanted_faults {K} {X} kind h tokens fault e = elim (some_or_none (h tokens)) [
 ]
 
 -- and of a mark
-pub passed_faults : {K : Type 0} (kind : K) (h : List Token → Option (List Token)) → FaultsAre (λ k _. k ≡ kind) (λ tokens. passed kind tokens (h tokens))
-passed_faults {K} kind h tokens fault e = elim (some_or_none (h tokens)) [
+pub expected_mark_faults : {K : Type 0} (kind : K) (h : List Token → Option (List Token)) → FaultsAre (λ k _. k ≡ kind) (λ tokens. expected_mark kind tokens (h tokens))
+expected_mark_faults {K} kind h tokens fault e = elim (some_or_none (h tokens)) [
   | inl y ↦ let o : ◌≡◌ {A = Result (Unit {0} × List Token) (K × List Token)} (Ok (tt, y.0)) (Err fault) = rw y.1 at e in absurd (ok_err (tt, y.0) fault o)
   | inr n ↦ let o : ◌≡◌ {A = Result (Unit {0} × List Token) (K × List Token)} (Err (kind, tokens)) (Err fault) = rw n at e in sym (ap (λ (f : K × List Token). f.0) (err_same (kind, tokens) fault o))
 ]

@@ -4,7 +4,7 @@ use Rattle.std.specs.Prelude.{Result, Ok, Err, [], ◌∷◌}
 use Rattle.lists.specs.Options.{◌>>=◌}
 use Rattle.game_core.specs.declared.token.Token.{Token}
 use Rattle.file_parts.specs.Reading.{opening_brace_at, closing_brace_at, text_at, number_at, after_word, version_at, letter_at, texts_at, payoff_start, payoff_at}
-use Rattle.file_parts.specs.Parsing.{Parsed, wanted, passed, parse_each, parse_names, parse_payoff, parse_payoffs, parse_title}
+use Rattle.file_parts.specs.Parsing.{Parsed, wanted, expected_mark, parse_each, parse_names, parse_payoff, parse_payoffs, parse_title}
 use Rattle.file_parts.proofs.ReaderLemmas.{chain}
 use Rattle.rational.specs.Rational.{ℚ}
 
@@ -53,9 +53,9 @@ value_wanted kind tokens None = refl
 value_wanted kind tokens (Some x) = refl
 
 -- a mark and what follows
-pub value_passed : {K Y : Type 0} (kind : K) (tokens : List Token) (o : Option (List Token)) (f : Unit {0} × List Token → Result Y (K × List Token)) (g : List Token → Option Y) → ((rest : List Token) → value (f (tt, rest)) ≡ g rest) → value (chain (passed kind tokens o) f) ≡ (o >>= g)
-value_passed kind tokens None f g same = refl
-value_passed kind tokens (Some rest) f g same = same rest
+pub value_expected_mark : {K Y : Type 0} (kind : K) (tokens : List Token) (o : Option (List Token)) (f : Unit {0} × List Token → Result Y (K × List Token)) (g : List Token → Option Y) → ((rest : List Token) → value (f (tt, rest)) ≡ g rest) → value (chain (expected_mark kind tokens o) f) ≡ (o >>= g)
+value_expected_mark kind tokens None f g same = refl
+value_expected_mark kind tokens (Some rest) f g same = same rest
 
 -- a part and what follows
 pub value_chain : {A B E : Type 0} (o : Result A E) (p : Option A) (f : A → Result B E) (g : A → Option B) → value o ≡ p → ((x : A) → value (f x) ≡ g x) → value (chain o f) ≡ (p >>= g)
@@ -75,9 +75,9 @@ value_each part other same i (suc n) tokens = value_chain (part i tokens) (other
 -- names
 pub value_names : {K : Type 0} (kind : K) (tokens : List Token) → value (parse_names kind tokens) ≡ names_at tokens
 unfolding parse_names names_at
-value_names kind tokens = value_passed kind tokens (opening_brace_at tokens) _ _ (λ inner.
+value_names kind tokens = value_expected_mark kind tokens (opening_brace_at tokens) _ _ (λ inner.
     value_chain (if nat_eq (length (texts_at inner).0) 0 then Err (kind, (texts_at inner).1) else Ok (texts_at inner)) _ _ _ (value_if (nat_eq (length (texts_at inner).0) 0) (Err (kind, (texts_at inner).1)) (Ok (texts_at inner)) None (Some (texts_at inner)) refl refl) (λ names.
-    value_passed kind names.1 (closing_brace_at names.1) _ _ (λ rest. refl)))
+    value_expected_mark kind names.1 (closing_brace_at names.1) _ _ (λ rest. refl)))
 
 -- payoffs
 pub value_payoffs : {K : Type 0} (kind : K) (n : ℕ) (tokens : List Token) → value (parse_payoffs kind n tokens) ≡ payoffs_at n tokens
@@ -86,4 +86,4 @@ value_payoffs kind n tokens = value_each (parse_payoff kind) payoff_at (λ i tok
 -- the title
 pub value_title : {K : Type 0} (kind : K) (word : List ℕ) (version : ℕ) (tokens : List Token) → value (parse_title kind word version tokens) ≡ title_at word version tokens
 unfolding parse_title title_at
-value_title kind word version tokens = value_passed kind tokens (after_word word tokens) _ _ (λ one. value_passed kind one (version_at version one) _ _ (λ two. value_passed kind two (letter_at two) _ _ (λ three. value_wanted kind three (text_at three))))
+value_title kind word version tokens = value_expected_mark kind tokens (after_word word tokens) _ _ (λ one. value_expected_mark kind one (version_at version one) _ _ (λ two. value_expected_mark kind two (letter_at two) _ _ (λ three. value_wanted kind three (text_at three))))

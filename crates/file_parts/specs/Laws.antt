@@ -1,5 +1,5 @@
--- That the reading functions read exactly what the productions derive. `sound`: what is read stands there. `complete`: what
--- stands there is read, whatever follows.
+-- That the reading functions read exactly what the productions derive. `sound`: what is read stands
+-- there. `complete`: what stands there is read, whatever follows.
 use Rattle.std.specs.Prelude.{ℕ, ◌≤◌, ◌≡◌, List, ◌∷◌, ◌++◌, length, Ok, Some}
 use Rattle.rational.specs.Rational.{ℚ}
 use Rattle.game_core.specs.declared.token.Token.{Token}

@@ -1,21 +1,21 @@
 -- sums with zero, and sums over one denominator
-use Rattle.std.proofs.Common.{ℕ, ◌≡◌, ◌/◌, ◌<◌, ◌^◌, ℤ, pos, ◌+ℤ◌, ◌*ℤ◌, refl, sym, ap, ap₂, ◌∙◌, subst, lit<, [], ◌∷◌}
+use Rattle.std.proofs.Common.{ℕ, ◌≡◌, ◌*◌, ◌/◌, ◌<◌, ◌^◌, ℤ, pos, nat_abs, ◌+ℤ◌, ◌*ℤ◌, int_lt, arith, refl, sym, ap, ap₂, ◌∙◌, subst, lit<, [], ◌∷◌}
 use Rattle.std.proofs.Math.IntN.{zero-*ℤ}
 use lib.IntN.{+ℤ_comm}
 use native.Mathlib.Nat.{div_self}
 use Rattle.rational.specs.Gcd.{gcd}
-use Rattle.rational.specs.Rational.{ℚ, ◌+ℚ◌, zero_ℚ}
+use Rattle.rational.specs.Rational.{ℚ, ◌+ℚ◌, zero_ℚ, frac}
 use Rattle.rational.proofs.DenominatorLemmas.{den_pos}
 use Rattle.rational.proofs.IntegerRing.{integer_ring, *ℤ_one}
 use Rattle.rational.proofs.RationalRing.{+ℚ_comm, +ℚ-zero}
 use Rattle.rational.proofs.Ring.{ring, ◌:+◌, num, A}
 use Rattle.rational.proofs.PartLemmas.{gcd-one}
 use Rattle.rational.proofs.Rules.{zero-+ℚ}
-use Rattle.frac128.specs.Fraction.{Fits, PartFits}
+use Rattle.frac128.specs.Fraction.{Fits, PartFits, with_sign}
 use Rattle.frac128.specs.Steps.{AddFits, num_beside}
 use Rattle.frac128.proofs.PartLemmas.{kept, kept-part, zero-num, zero-den}
 use Rattle.frac128.proofs.QuotientLemmas.{gcd_same}
-use Rattle.frac128.proofs.SumSizeLemmas.{Summands, Tops}
+use Rattle.frac128.proofs.SumSizeLemmas.{Summands, Tops, signed_size}
 
 -- zero plus a number
 zero-plus : (n : ℤ) → pos 0 +ℤ n ≡ n
@@ -93,3 +93,7 @@ like_refused a b n m same en fa em fb wide k =
     beside : (x y : ℚ) → x.den ≡ y.den → Fits y → num_beside y x ≡ y.num
     beside x y e f =
         ap (λ d. y.num *ℤ pos (d / gcd y.den d)) e ∙ ap (λ g. y.num *ℤ pos (y.den / g)) (gcd_same y.den) ∙ ap (λ d. y.num *ℤ pos d) (div_self (den_pos y)) ∙ *ℤ_one y.num
+
+-- the sum of numerators over their denominator, by its sign and its size
+pub like_value : (t : ℤ) (size d : ℕ) → size ≡ nat_abs (kept t) → frac (with_sign (int_lt (kept t) (pos 0)) size) d ≡ frac (kept t) (1 * (1 * d))
+like_value t size d is = ap₂ frac (ap (with_sign (int_lt (kept t) (pos 0))) is ∙ signed_size (kept t)) (omega arith)

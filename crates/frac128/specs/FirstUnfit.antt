@@ -1,4 +1,5 @@
--- Steps of arithmetic that all fit, or the first that does not: in a list, and in things one after another.
+-- Steps of arithmetic that all fit, or the first that does not: in a list, and in things one after
+-- another.
 use Rattle.std.specs.Prelude.{◌≡◌, List, ◌∷◌, ◌++◌, All, Ok, Err}
 use Rattle.answers.specs.Answers.{Answer}
 use Rattle.frac128.specs.Steps.{Step, StepFits, IsFirstUnfit}
@@ -14,7 +15,8 @@ abbrev pub StepsFit : {X : Type 0} → (X → List Step) → X → Type 0
 StepsFit steps x = All StepFits (steps x)
 
 -- x is the first of these things with a step that does not fit, and this is its first such step
-pub record IsFirstUnfitOf {X : Type 0} (steps : X → List Step) (xs : List X) (x : X) (step : Step) : Type 0 where
+pub record IsFirstUnfitOf {X : Type 0} (steps : X → List Step) (xs : List X) (x : X)
+    (step : Step) : Type 0 where
   pub before : List X
   pub after : List X
   pub is_there : xs ≡ before ++ x ∷ after

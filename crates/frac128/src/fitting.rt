@@ -11,7 +11,7 @@ pub(crate) const TWO_TO_127: u128 = 170141183460469231731687303715884105728;
 // The first number of more than 64 bits.
 const TWO_TO_64: u128 = 18446744073709551616;
 
-// The first size whose product with another such size may not fit.
+// 2^63: two smaller sizes have a product below 2^126.
 const TWO_TO_63: u128 = 9223372036854775808;
 
 /// The number of this size, with a sign.
@@ -24,14 +24,14 @@ pub fn signed(size: u128, negative: bool) -> i128
     if negative { -number } else { number }
 }
 
-/// Whether a part is below 2^63, so that the product with another such part fits.
+/// Whether a part is below 2^63 in size, so that the product with another such part fits.
 pub fn is_short(part: i128) -> bool
     ensures { IsTrue result ↔ (nat_abs part < 2 ^ 63) }
 {
     part.unsigned_abs() < TWO_TO_63
 }
 
-/// The product of two sizes, where it fits 128 bits. Nothing is divided.
+/// The product of two sizes, where it fits 128 bits. The only divisor is 2^64.
 pub(crate) fn product(n: u128, m: u128) -> Option<u128>
     ensures { SomeIff result (n * m < 2 ^ 128) (n * m) }
 {

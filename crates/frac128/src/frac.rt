@@ -240,7 +240,7 @@ impl Frac {
     }
 
     // The quotient of two sizes, with a sign, where its parts in lowest terms fit.
-    fn reduced(negative: bool, top: u128, bottom: u128) -> Option<Frac>
+    pub(crate) fn reduced(negative: bool, top: u128, bottom: u128) -> Option<Frac>
         requires { 0 < bottom }
         ensures { MatchOption result (¬ (Fits (frac (with_sign negative top) bottom))) (λ f. (f
             ≡ frac (with_sign negative top) bottom) × Fits f) }

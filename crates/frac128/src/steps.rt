@@ -58,14 +58,6 @@ impl fmt::Display for Unfit {
     }
 }
 
-impl Unfit {
-    fn of(op: Op, left: Frac, right: Frac) -> Unfit
-        ensures { result ≡ step_of op left right }
-    {
-        Unfit { op, left, right }
-    }
-}
-
 impl Frac {
     /// The sum.
     ///
@@ -80,7 +72,11 @@ impl Frac {
         ensures step { IfErr result (λ e. e ≡ step_of Op.Add self other) }
         ensures unfit { OnErr result (¬ (AddFits self other)) }
     {
-        self.sum(other).ok_or(Unfit::of(Op::Add, self, other))
+        self.sum(other).ok_or_else(|| Unfit {
+            op: Op::Add,
+            left: self,
+            right: other,
+        })
     }
 
     /// The difference.
@@ -94,8 +90,11 @@ impl Frac {
         ensures step { IfErr result (λ e. e ≡ step_of Op.Sub self other) }
         ensures unfit { OnErr result (¬ (SubFits self other)) }
     {
-        self.difference(other)
-            .ok_or(Unfit::of(Op::Sub, self, other))
+        self.difference(other).ok_or_else(|| Unfit {
+            op: Op::Sub,
+            left: self,
+            right: other,
+        })
     }
 
     /// The product.
@@ -109,7 +108,11 @@ impl Frac {
         ensures step { IfErr result (λ e. e ≡ step_of Op.Mul self other) }
         ensures unfit { OnErr result (¬ (MulFits self other)) }
     {
-        self.product(other).ok_or(Unfit::of(Op::Mul, self, other))
+        self.product(other).ok_or_else(|| Unfit {
+            op: Op::Mul,
+            left: self,
+            right: other,
+        })
     }
 
     /// The quotient.
@@ -124,6 +127,10 @@ impl Frac {
         ensures step { IfErr result (λ e. e ≡ step_of Op.Div self other) }
         ensures unfit { OnErr result (¬ (DivFits self other)) }
     {
-        self.quotient(other).ok_or(Unfit::of(Op::Div, self, other))
+        self.quotient(other).ok_or_else(|| Unfit {
+            op: Op::Div,
+            left: self,
+            right: other,
+        })
     }
 }

@@ -35,7 +35,7 @@ impl Frac {
             × AddFits self other) }
     {
         let top = plus(self.num(), other.num())?;
-        over(top, 1, 1, self.den().unsigned_abs())
+        Frac::reduced(top < 0, top.unsigned_abs(), self.den().unsigned_abs())
     }
 
     // The sum, where it fits. Of the divisors of the denominator, the numerator shares only some of
@@ -52,7 +52,7 @@ impl Frac {
         let left = times(self.num(), others)?;
         let right = times(other.num(), own)?;
         let top = plus(left, right)?;
-        over(top, own, others, common)
+        over_product(top, own, others, common)
     }
 
     // The difference, where it fits.
@@ -65,7 +65,7 @@ impl Frac {
 }
 
 // The fraction top / (own * others * common), whose numerator shares divisors with common alone.
-fn over(top: i128, own: u128, others: u128, common: u128) -> Option<Frac>
+fn over_product(top: i128, own: u128, others: u128, common: u128) -> Option<Frac>
     requires own_positive { 0 < own }
     requires others_positive { 0 < others }
     requires common_positive { 0 < common }

@@ -1,11 +1,10 @@
 -- Each command has an answer over the contents of its inputs.
-use Rattle.std.proofs.Common.{ℕ, ◌<◌, ◌≡◌, ◌∷◌, Bool, true, false, List, [], length, replicate, slice_index_or, All, Ok, arith}
+use Rattle.std.proofs.Common.{ℕ, ◌<◌, ◌∷◌, Bool, true, false, List, [], length, replicate, slice_index_or, All, arith}
 use Rattle.std.proofs.lemmas.List.{length-replicate}
 use Rattle.std.proofs.lemmas.List.Elements.{All-cons, All-map, All-nil}
-use Rattle.answers.specs.Answers.{only, refuse_where, refused_by, ◌>>=◌, ◌>>◌}
+use Rattle.answers.specs.Answers.{only, refused_by, ◌>>=◌, ◌>>◌}
 use Rattle.answers.specs.Answered.{IsAnswered}
 use Rattle.answers.proofs.AnsweredLemmas.{bind-answered, only-answered, refuse_where-answered, refused_by-answered}
-use Rattle.game_theory.specs.Recall.{AllRecall}
 use Rattle.game_theory.specs.Trees.{IsTree}
 use Rattle.game_core.specs.MadeTables.{made_table}
 use Rattle.game_core.specs.Table.{GameTable, IsTable, game_of as game_of_table}

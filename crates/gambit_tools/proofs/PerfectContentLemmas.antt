@@ -13,7 +13,7 @@ use Rattle.behaviour_profile.specs.Plans.{plan_behaviour}
 use Rattle.perfect_recall.specs.Found.{recall_of}
 use Rattle.sequence_data.specs.Data.{FormData}
 use Rattle.subgames.specs.MadeCuts.{MadeCut}
-use Rattle.verdicts.specs.TreeSteps.{now_steps_at}
+use Rattle.verdicts.specs.TreeSteps.{behaviour_steps_at}
 use Rattle.pure_payoffs.specs.declared.stop.PayoffStop.{PayoffStop}
 use Rattle.pure_payoffs.specs.declared.stop.PayoffStop.TheVariants as payoffs_stop
 use Rattle.sequence_data.specs.PlanPairs.{PlanPair}
@@ -50,7 +50,7 @@ in_subgame-contents n nodes r h = h
 
 payoffs-contents : (n : ℕ) (t : GameTree) (entries : List ℚ) (stop : PayoffStop) → entry_payoffs_fit t entries (Err stop) → IsOfContents (worth_refusal n stop)
 payoffs-contents n t entries stop (b, _, h) =
-    fitting-reasons (worth_refusal n) (λ unfit. payoffs_stop.Range unfit.0 unfit.1) (λ i. now_steps_at (game_of_tree t) b i 0) (range_with_len 0 (game_of_tree t).players) (λ unfit u. u) stop h
+    fitting-reasons (worth_refusal n) (λ unfit. payoffs_stop.Range unfit.0 unfit.1) (λ i. behaviour_steps_at (game_of_tree t) b i 0) (range_with_len 0 (game_of_tree t).players) (λ unfit u. u) stop h
 
 cut_entries_in-contents : (method : Method) (n : ℕ) (cut : MadeCut) → AreContents (cut_entries_in method n cut)
 cut_entries_in-contents method n cut =

@@ -1,5 +1,5 @@
--- What a command reads and answers. Each tool has a line in `inputs_of`; one that reads a game and nothing else has a line in
--- `tool_of`, and each other one in `answer_of`.
+-- What a command reads and answers. Each tool has a line in `inputs_of`; one that reads a game and
+-- nothing else has a line in `tool_of`, and each other one in `answer_of`.
 use Rattle.std.specs.Prelude.{ℕ, List, [], ◌∷◌, Some, slice_index_or}
 use Rattle.answers.specs.Answers.{Answer, ◌>>=◌}
 use Rattle.game_core.specs.declared.game.Game.{Game}
@@ -39,8 +39,10 @@ game_answer command bytes = do
   game ← game_in bytes
   tool_of command game
 
--- The answer of a command by the contents of its inputs: the order of the stages is the order of refusals.
+-- The answer of a command by the contents of its inputs: the order of the stages is the order of
+-- refusals.
 abbrev pub answer_of : Command → List (List ℕ) → Answer Refusal (List ℕ)
-answer_of (Check strategic game lines) contents = check strategic (slice_index_or contents 0 []) (slice_index_or contents 1 [])
+answer_of (Check strategic game lines) contents =
+    check strategic (slice_index_or contents 0 []) (slice_index_or contents 1 [])
 answer_of (Make number rows columns workers) contents = make number rows columns
 answer_of command contents = game_answer command (slice_index_or contents 0 [])

@@ -32,7 +32,8 @@ style_of Sgame = style.Sgame
 
 -- the text is the table of the game's strategic form, laid out with these two players, who are
 -- numbered from 1
-pub record IsLayoutText (shape : Layout) (row column : ℕ) (game : Game) (text : List ℕ) : Type 0 where
+pub record IsLayoutText (shape : Layout) (row column : ℕ) (game : Game)
+    (text : List ℕ) : Type 0 where
   pub table : GameTable
   pub is_form : strategic_table game (Ok table)
   pub row_is_player : IsPlayer table row

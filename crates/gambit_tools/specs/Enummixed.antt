@@ -11,8 +11,9 @@ use Rattle.two_player_tools.specs.TwoPlayers.{two_players}
 use Rattle.refusals.specs.Told.{kept_refusal, mixed_refusal}
 use Rattle.refusals.specs.declared.refusal.Refusal.{Refusal}
 
--- The text of the extreme equilibria of a table. They are looked for among all strategies where these
--- are asked for, and else among those that are kept where strictly dominated ones are removed.
+-- The text of the extreme equilibria of a table. They are looked for among all strategies where
+-- these are asked for, and else among those that are kept where strictly dominated ones are
+-- removed.
 abbrev pub table_text : Bool → GameTable → Answer Refusal (List ℕ)
 table_text true table = refused_by mixed_refusal (extreme_text (game_of table))
 table_text false table = do
@@ -37,4 +38,5 @@ pub record IsExtremeText (game : Game) (text : List ℕ) : Type 0 where
 -- Each text of `enummixed` is so.
 abbrev pub EnummixedTextsAreExtreme : Type 0
 EnummixedTextsAreExtreme =
-    (all : Bool) (game : Game) (text : List ℕ) → enummixed all game (Ok text) → IsExtremeText game text
+    (all : Bool) (game : Game) (text : List ℕ) → enummixed all game (Ok text)
+    → IsExtremeText game text

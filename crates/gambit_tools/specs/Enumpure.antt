@@ -1,5 +1,5 @@
--- The tool `enumpure`: the text of a game's pure equilibria, or of those of its agent form or in its
--- subgames.
+-- The tool `enumpure`: the text of a game's pure equilibria, or of those of its agent form or in
+-- its subgames.
 use Rattle.std.specs.Prelude.{ℕ, Bool, false, List, Ok}
 use Rattle.answers.specs.Answers.{Answer, ◌>>=◌, refused_by}
 use Rattle.game_core.specs.Table.{GameTable, game_of}
@@ -28,8 +28,8 @@ tree_answer false false tree = do
 tree_answer agents perfect tree =
     refused_by choice_refusal (passing_text agents perfect (game_of_tree tree))
 
--- The answer of `enumpure`: the pure equilibria of the game's strategic form, by strategies; but those
--- of a tree as behaviour, unless strategies are asked for.
+-- The answer of `enumpure`: the pure equilibria of the game's strategic form, by strategies; but
+-- those of a tree as behaviour, unless strategies are asked for.
 abbrev pub enumpure : (strategic agents perfect : Bool) → Game → Answer Refusal (List ℕ)
 enumpure false agents perfect (Extensive tree) = tree_answer agents perfect tree
 enumpure _ agents perfect game = do
@@ -45,9 +45,10 @@ IsTreeText false false tree text =
     × IsTreeEquilibriaText (game_of_tree tree) form.choices text
 IsTreeText agents perfect tree text = IsPassingText agents perfect (game_of_tree tree) text
 
--- The text has the lines of exactly the pure equilibria of the game's strategic form, by strategies;
--- but those of a tree as behaviour, unless strategies are asked for.
+-- The text has the lines of exactly the pure equilibria of the game's strategic form, by
+-- strategies; but those of a tree as behaviour, unless strategies are asked for.
 abbrev pub IsPureText : (strategic agents perfect : Bool) → Game → List ℕ → Type 0
 IsPureText false agents perfect (Extensive tree) text = IsTreeText agents perfect tree text
 IsPureText _ agents perfect game text =
-    (table : GameTable) × strategic_table game (Ok table) × IsPureEquilibriaText (game_of table) text
+    (table : GameTable) × strategic_table game (Ok table)
+    × IsPureEquilibriaText (game_of table) text

@@ -42,7 +42,8 @@ table_game tokens = do
 
 -- the game of the tokens: the first of them decides of which form it is
 abbrev pub game_of_tokens : TokenList → Answer Refusal Game
-game_of_tokens tokens = by_case (BeginsAsTree (bare tokens.list)) (tree_game tokens) (table_game tokens)
+game_of_tokens tokens =
+    by_case (BeginsAsTree (bare tokens.list)) (tree_game tokens) (table_game tokens)
 
 -- the game of an input's bytes
 abbrev pub game_in : List ℕ → Answer Refusal Game

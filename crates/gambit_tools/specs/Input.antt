@@ -29,13 +29,15 @@ pub record IsReadTooFar (name : InputName) (before after : InputsSeen) : Type 0 
   pub count : length taken ≡ most_bytes + 1
   pub are_first : Consumes (before.held name) after.left taken
 
--- the input could not be opened: the count of such faults rose, the input is the failed one, and none is selected
+-- the input could not be opened: the count of such faults rose, the input is the failed one, and
+-- none is selected
 pub record IsOpenFault (name : InputName) (before after : InputsSeen) : Type 0 where
   pub rose : Rose before.open_faults after.open_faults
   pub failed : after.failed ≡ Some name
   pub none_selected : after.selected ≡ None
 
--- the input could not be read: the count of such faults rose, the input is the failed one, and none is selected
+-- the input could not be read: the count of such faults rose, the input is the failed one, and none
+-- is selected
 pub record IsReadFault (name : InputName) (before after : InputsSeen) : Type 0 where
   pub rose : Rose before.read_faults after.read_faults
   pub failed : after.failed ≡ Some name
@@ -48,18 +50,6 @@ IsInputRefusal name before after refusal.ReadFault = IsReadFault name before aft
 IsInputRefusal name before after refusal.TooLong = IsReadTooFar name before after
 IsInputRefusal name before after refusal.Memory = after.selected ≡ Some name
 IsInputRefusal name before after _ = ⊥
-
--- why reading a piece of the selected input is refused
-abbrev pub IsPieceRefusal : InputsSeen → InputsSeen → Refusal → Type 0
-IsPieceRefusal before after refusal.ReadFault = Rose before.read_faults after.read_faults × (after.failed ≡ before.selected) × (after.selected ≡ None)
-IsPieceRefusal before after refusal.Memory = (after.selected ≡ before.selected) × (after.read_faults ≡ before.read_faults)
-IsPieceRefusal before after _ = ⊥
-
--- why reading the selected input to its end is refused, of which these bytes were left: for a piece of it, or for their number
-abbrev pub IsReadingRefusal : Option (List ℕ) → InputsSeen → InputsSeen → Refusal → Type 0
-IsReadingRefusal left before after refusal.TooLong =
-    (after.selected ≡ before.selected) × (after.read_faults ≡ before.read_faults) × (taken : List ℕ) × (length taken ≡ most_bytes + 1) × Consumes left after.left taken
-IsReadingRefusal left before after r = IsPieceRefusal before after r
 
 -- a count rose only with its own refusal
 pub record CountsDetermine (before after : InputsSeen) (refused : Option Refusal) : Type 0 where

@@ -1,5 +1,5 @@
--- What each text of a tool says of the game that the bytes of its input stand for, or that is made; and what each refusal
--- that names a step says of it.
+-- What each text of a tool says of the game that the bytes of its input stand for, or that is made;
+-- and what each refusal that names a step says of it.
 use Rattle.std.specs.Prelude.{ℕ, ◌≡◌, Bool, List, [], ◌∷◌, Ok, Err}
 use Rattle.frac128.specs.Steps.{Step, StepFits}
 use Rattle.game_core.specs.declared.game.Game.{Game}
@@ -22,10 +22,11 @@ use Rattle.gambit_tools.specs.Make.{IsCountsText}
 use Rattle.refusals.specs.declared.refusal.Refusal.{Refusal}
 use Rattle.refusals.specs.declared.refusal.Refusal.TheVariants as refusal
 
--- Each text of `enumpure` lists the pure equilibria, or with `-A` or `-P` on a tree the choices that pass; that of
--- `enummixed` lists the extreme ones, that of `lcp` is the line of an equilibrium, that of `lp` that of a solution, or with
--- `-P` on a tree of an equilibrium in every subgame; that of `convert` is the layout of the strategic form, that of `check`
--- tells of each line, and that of `make` counts.
+-- Each text of `enumpure` lists the pure equilibria, or with `-A` or `-P` on a tree the choices
+-- that pass; that of `enummixed` lists the extreme ones, that of `lcp` is the line of an
+-- equilibrium, that of `lp` that of a solution, or with `-P` on a tree of an equilibrium in every
+-- subgame; that of `convert` is the layout of the strategic form, that of `check` tells of each
+-- line, and that of `make` counts.
 pub record TextsHoldForTheGame : Type 0 where
   pub enumpure : (strategic agents perfect : Bool) (file : InputName) (bytes text : List ℕ)
       → answer_of (Enumpure strategic agents perfect file) (bytes ∷ []) (Ok text)

@@ -1,4 +1,5 @@
--- What a run does: what it answers and why, what it reads and writes, and what it tells on standard error.
+-- What a run does: what it answers and why, what it reads and writes, and what it tells on standard
+-- error.
 use Rattle.std.specs.Prelude.{ℕ, zero, suc, ◌+◌, ◌<◌, ◌≤◌, ◌≡◌, ◌⊎◌, true, false, All, List, [], ◌∷◌, length, slice_get, take, Contains, Option, None, Some, Ok, Err, Result}
 use Rattle.std.specs.Result.{result_err}
 use Rattle.outside.specs.Counts.{Rose, count_of_more}
@@ -50,8 +51,8 @@ IsLastRead (name ∷ other ∷ names) after = IsLastRead (other ∷ names) after
 -- after the inputs with these names were read to their ends, one after another
 pub record AreReadToEnd (names : List InputName) (before after : InputsSeen) : Type 0 where
   pub last : IsLastRead names after
-  -- as many selections were made as there are names, and the end was met in as many: in each of them,
-  -- where nothing was selected before
+  -- as many selections were made as there are names, and the end was met in as many: in each of
+  -- them, where nothing was selected before
   pub selections : after.selections ≡ count_of_more before.selections (length names)
   pub ends : after.ends ≡ count_of_more before.ends (length names)
   -- none of these names is known to be that of no input
@@ -67,17 +68,17 @@ abbrev pub with_ends : ℕ → ℕ → ℕ
 with_ends ends zero = ends
 with_ends ends (suc more) = count_of_more ends (suc more)
 
--- before what was done at a place among these names the end was met in as many selections as there are
--- names before it, and one selection more was made; where bytes are told, the inputs with these names
--- before it have no more of them than an input may have
+-- before what was done at a place among these names the end was met in as many selections as there
+-- are names before it, and one selection more was made; where bytes are told, the inputs with these
+-- names before it have no more of them than an input may have
 pub record IsInTurn (names : List InputName) (place : ℕ) (before after : InputsSeen) : Type 0 where
   pub selections : after.selections ≡ count_of_more before.selections (suc place)
   pub ends : after.ends ≡ with_ends before.ends place
   pub within_limit : (k : ℕ) (name : InputName) (bytes : List ℕ) → k < place
       → slice_get names k ≡ Some name → before.held name ≡ Some bytes → length bytes ≤ most_bytes
 
--- an input with this name, which could not be opened or read, or is too long, came in its turn among
--- these names
+-- an input with this name, which could not be opened or read, or is too long, came in its turn
+-- among these names
 abbrev pub ComesInTurn : List InputName → InputName → InputsSeen → InputsSeen → Type 0
 ComesInTurn names name before after =
     (place : ℕ) × (slice_get names place ≡ Some name) × IsInTurn names place before after
@@ -128,7 +129,8 @@ abbrev pub SelectsFew : List InputName → InputsSeen → InputsSeen → Type 0
 SelectsFew names before after = after.selections ≤ before.selections + length names
 
 -- what reading a command's inputs and computing its text does
-pub record IsComputed (command : Command) (before after : InputsSeen) (answer : RunAnswer) : Type 0 where
+pub record IsComputed (command : Command) (before after : InputsSeen)
+    (answer : RunAnswer) : Type 0 where
   pub answers : Answers command before after answer
   pub has_read : HasRead (inputs_of command) before after answer
   pub selects_few : SelectsFew (inputs_of command) before after
@@ -137,11 +139,12 @@ pub record IsComputed (command : Command) (before after : InputsSeen) (answer : 
   pub inputs_stay : (name : InputName) → after.held name ≡ before.held name
 
 -- ---- what is written
--- why a run with this command does not end well: its text is not computed, and nothing is done to the
--- output; or it is not written whole, and a front of it is
+-- why a run with this command does not end well: its text is not computed, and nothing is done to
+-- the output; or it is not written whole, and a front of it is
 abbrev pub IsRunStop : Command → Outside → Outside → Refusal → Origin → Type 0
 IsRunStop command before after r (OutsideFault Writing) =
-    Rose before.out.faults after.out.faults × (text : List ℕ) × HasAnswer command before.inputs (Ok text)
+    Rose before.out.faults after.out.faults × (text : List ℕ)
+    × HasAnswer command before.inputs (Ok text)
     × (count : ℕ) × Takes before.out.taken after.out.taken (take count text)
 IsRunStop command before after r o =
     IsRefusedIn command before.inputs after.inputs r o × (after.out ≡ before.out)
@@ -155,13 +158,14 @@ Ends command before after (Ok text) =
 Ends command before after (Err r) = IsRunStop command before after r (origin r)
 
 -- a run with this command
-pub record IsCommandRun (command : Command) (before after : Outside) (answer : RunAnswer) : Type 0 where
+pub record IsCommandRun (command : Command) (before after : Outside)
+    (answer : RunAnswer) : Type 0 where
   pub ends : Ends command before after answer
   pub has_read : HasRead (inputs_of command) before.inputs after.inputs answer
   pub selects_few : SelectsFew (inputs_of command) before.inputs after.inputs
 
--- a run whose words are refused: it is refused so, or for want of memory, and nothing is done to the
--- inputs and to the output
+-- a run whose words are refused: it is refused so, or for want of memory, and nothing is done to
+-- the inputs and to the output
 pub record IsUsageRun (usage : Usage) (before after : Outside) (answer : RunAnswer) : Type 0 where
   pub is_refused : (answer ≡ Err (refusal.Usage usage)) ⊎ (answer ≡ Err refusal.Memory)
   pub nothing_read : after.inputs ≡ before.inputs
@@ -173,14 +177,15 @@ IsRunOf (Ok command) before after answer = IsCommandRun command before after ans
 IsRunOf (Err usage) before after answer = IsUsageRun usage before after answer
 
 -- ---- what is told
--- a front of a line was taken, and all of it, which is flushed, where the count of faults did not rise
+-- a front of a line was taken, and all of it, which is flushed, where the count of faults did not
+-- rise
 abbrev pub TakesLine : SinkSeen → SinkSeen → List ℕ → Type 0
 TakesLine before after line =
     (count : ℕ) × Takes before.taken after.taken (take count line)
     × (((length line ≤ count) × (after.flushed ≡ true)) ⊎ Rose before.faults after.faults)
 
--- what standard error took: nothing is done to it where nothing is refused, else it took the line of
--- the refusal
+-- what standard error took: nothing is done to it where nothing is refused, else it took the line
+-- of the refusal
 abbrev pub IsTold : SinkSeen → SinkSeen → Option Refusal → Type 0
 IsTold before after None = after ≡ before
 IsTold before after (Some r) = TakesLine before after (refusal_line r)
@@ -192,8 +197,8 @@ pub record NoFault (before after : Outside) : Type 0 where
   pub reading : Rose before.inputs.read_faults after.inputs.read_faults → ⊥
   pub writing : Rose before.out.faults after.out.faults → ⊥
 
--- Where the words are a command, the inputs tell their contents and no fault was counted, the contents
--- have this answer and no other, unless memory runs out.
+-- Where the words are a command, the inputs tell their contents and no fault was counted, the
+-- contents have this answer and no other, unless memory runs out.
 abbrev pub IsExact : List (List ℕ) → Outside → Outside → RunAnswer → Type 0
 IsExact words before after answer =
     (command : Command) → command_from words ≡ Ok command
@@ -216,7 +221,8 @@ IsComplete words before after status =
     × Takes before.out.taken after.out.taken text × (after.out.flushed ≡ true))
 
 -- a run with this answer, which is told by the status and on standard error
-pub record IsToldRun (words : List (List ℕ)) (before after : Seen) (status : ℕ) (answer : RunAnswer) : Type 0 where
+pub record IsToldRun (words : List (List ℕ)) (before after : Seen) (status : ℕ)
+    (answer : RunAnswer) : Type 0 where
   pub status_is : status ≡ run_status (result_err answer)
   pub is_run : IsRunOf (command_from words) (but_for_err before) (but_for_err after) answer
   pub is_exact : IsExact words (but_for_err before) (but_for_err after) answer

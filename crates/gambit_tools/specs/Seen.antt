@@ -7,6 +7,7 @@ pub record Outside : Type 0 where
   pub inputs : InputsSeen
   pub out : SinkSeen
 
+-- both of them
 abbrev pub outside : InputsSeen → SinkSeen → Outside
 outside inputs out = record { inputs = inputs; out = out }
 
@@ -16,6 +17,7 @@ pub record Seen : Type 0 where
   pub out : SinkSeen
   pub err : SinkSeen
 
+-- all three
 abbrev pub seen : InputsSeen → SinkSeen → SinkSeen → Seen
 seen inputs out err = record { inputs = inputs; out = out; err = err }
 

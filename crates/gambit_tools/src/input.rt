@@ -4,7 +4,8 @@ ghost use Rattle.std.specs.Result.{result_err};
 ghost use Rattle.std.specs.Io.KnownBytes.{Consumes, IsAtEnd};
 ghost use Rattle.outside.specs.Counts.{next_count};
 ghost use Rattle.outside.specs.Inputs.{InputName};
-ghost use Rattle.gambit_tools.specs.Input.{most_bytes, AreBytesOf, IsInputRefusal, IsPieceRefusal, IsReadingRefusal, IsReadToEnd, CountsDetermine};
+ghost use Rattle.gambit_tools.specs.Input.{most_bytes, AreBytesOf, IsInputRefusal, IsReadToEnd, CountsDetermine};
+ghost use Rattle.gambit_tools.specs.Pieces.{IsPieceRefusal, IsReadingRefusal};
 
 use outside::Inputs;
 use refusals::Refusal;

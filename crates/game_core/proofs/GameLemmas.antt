@@ -4,7 +4,7 @@ use Rattle.std.proofs.lemmas.List.FromFn.{get_or-map-range_with_len, length-map-
 use Rattle.std.proofs.Math.Nat.{mul-one}
 use Rattle.lists.proofs.NumberLemmas.{below_two}
 use Rattle.rational.specs.Rational.{ℚ, whole, zero_ℚ}
-use Rattle.game_core.specs.Table.{IsTable, game_of, most_payoffs}
+use Rattle.game_core.specs.Table.{IsTable, most_payoffs}
 use Rattle.game_core.specs.MadeTableLaws.{MadeTablesPayDraws}
 use Rattle.game_core.specs.MadeTables.{drawn, made_payoffs}
 

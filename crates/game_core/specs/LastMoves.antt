@@ -4,8 +4,8 @@ use Rattle.game_theory.specs.OwnSets.{Chooses, NobodyChooses}
 use Rattle.game_theory.specs.Recall.{own_history}
 use Rattle.game_theory.specs.Trees.{Tree, IsWithin}
 
--- Node a is the last node above node k at which player i moves. It is in set s, and this action leads from there
--- towards k.
+-- Node a is the last node above node k at which player i moves. It is in set s, and this action
+-- leads from there towards k.
 pub record IsLastMove (t : Tree) (i k a s action : ℕ) : Type 0 where
   pub above : a < k
   pub on_path : IsWithin t a (t.parent k)

@@ -8,6 +8,7 @@ abbrev pub numbers_owned : List InformationSet → ℕ → List ℕ
 numbers_owned sets i = places_with (λ set. set.owner) sets i
 
 -- list i has the numbers of player i's own sets in order
-pub record AreOwnLists (sets : List InformationSet) (players : ℕ) (lists : List (List ℕ)) : Type 0 where
+pub record AreOwnLists (sets : List InformationSet) (players : ℕ)
+    (lists : List (List ℕ)) : Type 0 where
   pub one_for_each : length lists ≡ players
   pub are_own : (i : ℕ) → i < length lists → slice_get lists i ≡ Some (numbers_owned sets i)

@@ -13,4 +13,6 @@ IsShortToken _ = Unit {0}
 -- the spans are in order, none ends after the source's end, and numbers are short
 abbrev pub AreSpaced : ℕ → ℕ → List Spanned → Type 0
 AreSpaced from to [] = from ≤ to
-AreSpaced from to (spanned ∷ tokens) = (from ≤ spanned.start) × (spanned.start < spanned.end) × IsShortToken spanned.token × AreSpaced spanned.end to tokens
+AreSpaced from to (spanned ∷ tokens) =
+    (from ≤ spanned.start) × (spanned.start < spanned.end) × IsShortToken spanned.token
+    × AreSpaced spanned.end to tokens

@@ -17,7 +17,13 @@ pub record GameTable : Type 0 where
 -- a table is stored as its four lists
 abbrev pub code_of_table : Coded GameTable
 code_of_table =
-    code_by (List ℕ × (List (List ℕ) × (List (List (List ℕ)) × List ℚ))) (coded× (coded_list coded_ℕ) (coded× (coded_list (coded_list coded_ℕ)) (coded× (coded_list (coded_list (coded_list coded_ℕ))) (coded_list code_ℚ)))) (λ t. (t.title, (t.players, (t.strategies, t.payoffs)))) (λ p. record { title = p.0; players = p.1.0; strategies = p.1.1.0; payoffs = p.1.1.1 }) (λ _. refl)
+    code_by (List ℕ × (List (List ℕ) × (List (List (List ℕ)) × List ℚ)))
+    (coded× (coded_list coded_ℕ)
+    (coded× (coded_list (coded_list coded_ℕ))
+    (coded× (coded_list (coded_list (coded_list coded_ℕ))) (coded_list code_ℚ))))
+    (λ t. (t.title, (t.players, (t.strategies, t.payoffs))))
+    (λ p. record { title = p.0; players = p.1.0; strategies = p.1.1.0; payoffs = p.1.1.1 })
+    (λ _. refl)
 
 -- how many strategies each player has
 abbrev pub strategy_counts : GameTable → List ℕ
@@ -36,4 +42,8 @@ pub record IsTable (t : GameTable) : Type 0 where
 
 -- the game that a table stands for
 abbrev pub game_of : GameTable → Game
-game_of t = record { strategies = strategy_counts t; pays = λ i k. entry_at t.payoffs (k * length t.players + i) }
+game_of t =
+    record {
+      strategies = strategy_counts t;
+      pays = λ i k. entry_at t.payoffs (k * length t.players + i);
+    }

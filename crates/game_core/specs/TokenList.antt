@@ -33,7 +33,8 @@ token_of_kind (suc (suc (suc zero))) bytes value = Text bytes
 token_of_kind (suc (suc (suc (suc zero)))) bytes value = Word bytes
 token_of_kind (suc (suc (suc (suc (suc n))))) bytes value = Number value
 
-pub token_of_kind-parts : (token : Token) → token_of_kind (token_parts token).0 (token_parts token).1.0 (token_parts token).1.1 ≡ token
+pub token_of_kind-parts : (token : Token)
+    → token_of_kind (token_parts token).0 (token_parts token).1.0 (token_parts token).1.1 ≡ token
 token_of_kind-parts Left = refl
 token_of_kind-parts Right = refl
 token_of_kind-parts Comma = refl
@@ -43,13 +44,17 @@ token_of_kind-parts (Number value) = refl
 
 abbrev pub code_of_token : Coded Token
 code_of_token =
-    code_by (ℕ × (List ℕ × ℚ)) (coded× coded_ℕ (coded× (coded_list coded_ℕ) code_ℚ)) token_parts (λ p. token_of_kind p.0 p.1.0 p.1.1) token_of_kind-parts
+    code_by (ℕ × (List ℕ × ℚ)) (coded× coded_ℕ (coded× (coded_list coded_ℕ) code_ℚ)) token_parts
+    (λ p. token_of_kind p.0 p.1.0 p.1.1) token_of_kind-parts
 
 -- a token with its span is stored as these three
 abbrev pub code_of_spanned : Coded Spanned
 code_of_spanned =
-    code_by (Token × (ℕ × ℕ)) (coded× code_of_token (coded× coded_ℕ coded_ℕ)) (λ s. (s.token, (s.start, s.end))) (λ p. record { token = p.0; start = p.1.0; end = p.1.1 }) (λ _. refl)
+    code_by (Token × (ℕ × ℕ)) (coded× code_of_token (coded× coded_ℕ coded_ℕ))
+    (λ s. (s.token, (s.start, s.end))) (λ p. record { token = p.0; start = p.1.0; end = p.1.1 })
+    (λ _. refl)
 
 abbrev pub code_of_tokens : Coded TokenList
 code_of_tokens =
-    code_by (List Spanned × ℕ) (coded× (coded_list code_of_spanned) coded_ℕ) (λ t. (t.list, t.length)) (λ p. record { list = p.0; length = p.1 }) (λ _. refl)
+    code_by (List Spanned × ℕ) (coded× (coded_list code_of_spanned) coded_ℕ)
+    (λ t. (t.list, t.length)) (λ p. record { list = p.0; length = p.1 }) (λ _. refl)

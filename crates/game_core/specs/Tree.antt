@@ -1,5 +1,5 @@
--- What contracts see of a game tree, and what makes it one. Source: Gambit's description of its `.efg` format, version 2;
--- Kuhn 1953.
+-- What contracts see of a game tree, and what makes it one. Source: Gambit's description of its
+-- `.efg` format, version 2; Kuhn 1953.
 use Rattle.std.specs.Prelude.{ℕ, zero, suc, ◌<◌, ◌≤◌, ◌^◌, ◌≡◌, List, [], ◌∷◌, ◌++◌, length, map, slice_get, slice_index_or, All, IfSome, Option, Some, None}
 use Rattle.std.specs.List.{range_with_len}
 use Rattle.rational.specs.Rational.{ℚ, zero_ℚ}
@@ -11,7 +11,8 @@ use Rattle.game_core.specs.declared.tree.Kind.{Kind}
 use Rattle.game_core.specs.declared.tree.Kind.TheVariants.{Chance, Move, End}
 use Rattle.game_core.specs.declared.tree.Node.{Node}
 
--- an information set: its owner (nothing for chance), the number and the name that a file gives it, its actions and its nodes
+-- an information set: its owner (nothing for chance), the number and the name that a file gives it,
+-- its actions and its nodes
 pub record InformationSet : Type 0 where
   pub owner : Option ℕ
   pub label : ℕ
@@ -57,18 +58,23 @@ OpenBranch = Option ℕ × ℕ
 abbrev pub branches_from : Option ℕ → ℕ → ℕ → List OpenBranch
 branches_from parent action n = map (λ a. (parent, a)) (range_with_len action n)
 
--- Nodes in prefix order, numbered from k on: each hangs at the first open branch, and the branches of its own actions come
--- before the others. The rest stays open after the last node.
-abbrev pub AreInPrefixOrder : List InformationSet → ℕ → List Node → List OpenBranch → List OpenBranch → Type 0
+-- Nodes in prefix order, numbered from k on: each hangs at the first open branch, and the branches
+-- of its own actions come before the others. The rest stays open after the last node.
+abbrev pub AreInPrefixOrder : List InformationSet → ℕ → List Node → List OpenBranch
+    → List OpenBranch → Type 0
 AreInPrefixOrder sets k [] free rest = free ≡ rest
 AreInPrefixOrder sets k (node ∷ nodes) [] rest = ⊥
 AreInPrefixOrder sets k (node ∷ nodes) (branch ∷ free) rest =
-    ((node.parent, node.branch) ≡ branch) × AreInPrefixOrder sets (suc k) nodes (branches_from (Some k) 0 (action_count sets node.set) ++ free) rest
+    ((node.parent, node.branch) ≡ branch)
+    × AreInPrefixOrder sets (suc k) nodes
+    (branches_from (Some k) 0 (action_count sets node.set) ++ free) rest
 
 -- node k lies d edges below the root
 abbrev pub LiesBelowRoot : List Node → ℕ → ℕ → Type 0
 LiesBelowRoot nodes zero k = (node : Node) × (slice_get nodes k ≡ Some node) × (node.parent ≡ None)
-LiesBelowRoot nodes (suc d) k = (node : Node) × (parent : ℕ) × (slice_get nodes k ≡ Some node) × (node.parent ≡ Some parent) × LiesBelowRoot nodes d parent
+LiesBelowRoot nodes (suc d) k =
+    (node : Node) × (parent : ℕ) × (slice_get nodes k ≡ Some node) × (node.parent ≡ Some parent)
+    × LiesBelowRoot nodes d parent
 
 -- who chooses at a set with this owner
 abbrev pub kind_of_owner : Option ℕ → Kind
@@ -84,7 +90,8 @@ kind_at sets (Some s) = kind_of_owner (slice_index_or (map (λ set. set.owner) s
 abbrev pub IsBelow : ℕ → Option ℕ → Type 0
 IsBelow bound index = IfSome index (λ i. i < bound)
 
--- a node names a set and an outcome of the tree, where it names any, and its kind is that of its set
+-- a node names a set and an outcome of the tree, where it names any, and its kind is that of its
+-- set
 pub record NodeFits (t : GameTree) (node : Node) : Type 0 where
   pub kind_is : node.kind ≡ kind_at t.sets node.set
   pub set_within : IsBelow (length t.sets) node.set
@@ -98,7 +105,8 @@ members_of nodes s = places_with (λ node. node.set) nodes s
 abbrev pub probability_at : List Action → ℕ → ℚ
 probability_at actions a = entry_at (map (λ action. action.prob) actions) a
 
--- the actions of chance have a probability distribution, and those of a player no probabilities: 0 stands in their place
+-- the actions of chance have a probability distribution, and those of a player no probabilities: 0
+-- stands in their place
 abbrev pub ProbabilitiesFit : Option ℕ → List Action → Type 0
 ProbabilitiesFit None actions = IsDistribution (length actions) (probability_at actions)
 ProbabilitiesFit (Some i) actions = All (λ action. action.prob ≡ zero_ℚ) actions
@@ -115,8 +123,8 @@ pub record SetFits (t : GameTree) (s : ℕ) (set : InformationSet) : Type 0 wher
 abbrev pub AreInOrderOfFirstUse : List (Option ℕ) → Type 0
 AreInOrderOfFirstUse names = AreNumberedByFirstUse (λ k. slice_index_or names k None) (length names)
 
--- A game tree within the limits, as far as it goes: its nodes stand in prefix order and leave these branches open, and its sets and
--- outcomes stand in the order in which the nodes first name them.
+-- A game tree within the limits, as far as it goes: its nodes stand in prefix order and leave these
+-- branches open, and its sets and outcomes stand in the order in which the nodes first name them.
 pub record IsPartialTree (t : GameTree) (free : List OpenBranch) : Type 0 where
   pub in_prefix_order : AreInPrefixOrder t.sets 0 t.nodes ((None, 0) ∷ []) free
   pub nodes_fit : All (NodeFits t) t.nodes

@@ -8,7 +8,8 @@ use Rattle.game_core.specs.Tree.{GameTree, TreeOutcome, action_count, probabilit
 -- what the outcome of a node pays player i, and 0 where it has none
 abbrev pub outcome_pays : List TreeOutcome → Option ℕ → ℕ → ℚ
 outcome_pays outcomes None i = zero_ℚ
-outcome_pays outcomes (Some o) i = entry_at (slice_index_or (map (λ outcome. outcome.payoffs) outcomes) o []) i
+outcome_pays outcomes (Some o) i =
+    entry_at (slice_index_or (map (λ outcome. outcome.payoffs) outcomes) o []) i
 
 -- the game in extensive form that a tree stands for
 abbrev pub game_of_tree : GameTree → Tree
@@ -18,7 +19,8 @@ game_of_tree t = record {
   parent = λ k. unwrap_or (slice_index_or (map (λ node. node.parent) t.nodes) k None) 0;
   branch = λ k. slice_index_or (map (λ node. node.branch) t.nodes) k 0;
   set = λ k. slice_index_or (map (λ node. node.set) t.nodes) k None;
-  pays = λ k i. outcome_pays t.outcomes (slice_index_or (map (λ node. node.outcome) t.nodes) k None) i;
+  pays =
+      λ k i. outcome_pays t.outcomes (slice_index_or (map (λ node. node.outcome) t.nodes) k None) i;
   sets = length t.sets;
   owner = λ s. slice_index_or (map (λ set. set.owner) t.sets) s None;
   actions = λ s. action_count t.sets (Some s);

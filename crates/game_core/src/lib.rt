@@ -6,8 +6,10 @@
 //! `made_tables_pay_draws`, of `make_table`.
 //! Definitions: `specs::Table` and `TreeGame` say what a table and a tree stand for (`game_of`,
 //! `game_of_tree`), `Tree` what makes one, `LastMoves` which moves are the last, `Limits` when a
-//! count is within its limit, `Spacing` what tokens keep, `TreeCodes` how the parts of trees are
-//! coded where models keep them, `Texts` how what is counted is displayed.
+//! count is within its limit, `TokenList` what a list of tokens is, `Spacing` what tokens keep,
+//! `MadeTables` which tables are drawn from a seed, `MadeTableLaws` what they pay,
+//! `TreeCodes` how the parts of trees are coded where models keep them, `Texts` how what is counted
+//! is displayed.
 //! Private words: `specs::OwnSets`, how a tree keeps its own sets.
 //! Lemmas for callers: `proofs::TableCountLemmas` on counts of strategies, `SameTableLemmas` on
 //! tables with the same parts, `StrideLemmas`, `ParentPathLemmas` on subtrees, `SetReadLemmas` on

@@ -222,8 +222,8 @@ fn own_lists(alloc: Global, players: usize, sets: &[InfoSet]) -> Result<Vec<Vec<
 }
 
 /// A game as a tree. The nodes stand in prefix order, the sets and the outcomes in the order in
-/// which the nodes first name them. There are at most 65,536 nodes, none more than 1,024 edges from
-/// the root.
+/// which the nodes first name them; outcomes that no node names come last. There are at most 65,536
+/// nodes, none more than 1,024 edges from the root.
 #[derive(Debug, Drop)]
 pub struct Tree {
     title: Name,
@@ -336,7 +336,8 @@ impl Tree {
         self.sets.as_slice()
     }
 
-    /// The outcomes, in the order in which the nodes first name them.
+    /// The outcomes, in the order in which the nodes first name them; those that no node names come
+    /// last.
     pub fn outcomes(&self) -> &[Outcome]
         ensures outcomes { result.now ≡ self.now.outcomes }
         ensures valid { IsGameTree self.now }

@@ -11,7 +11,8 @@ pub record AreDigits (text : List ℕ) : Type 0 where
 -- the digits from the first that is not 0 on
 abbrev pub without_leading_zeros : List ℕ → List ℕ
 without_leading_zeros [] = []
-without_leading_zeros (digit ∷ digits) = if digit == 48 then without_leading_zeros digits else digit ∷ digits
+without_leading_zeros (digit ∷ digits) =
+    if digit == 48 then without_leading_zeros digits else digit ∷ digits
 
 -- the digits up to the last that is not 0
 abbrev pub without_trailing_zeros : List ℕ → List ℕ

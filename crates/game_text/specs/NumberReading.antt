@@ -38,35 +38,43 @@ are_digits text = list_all is_ascii_digit text && nat_lt 0 (length text)
 unfoldable pub power_of : List ℕ → Option (Bool × List ℕ)
 power_of [] = Some (false, [])
 power_of (b ∷ bytes) =
-    if (b == 101 || b == 69) && are_digits (after_sign bytes) then Some (is_minus bytes, after_sign bytes) else None
+    if (b == 101 || b == 69) && are_digits (after_sign bytes)
+    then Some (is_minus bytes, after_sign bytes) else None
 
 -- a decimal with this exponent, where it has one
 abbrev pub with_power : Bool → List ℕ → List ℕ → Option (Bool × List ℕ) → Option NumberForm
 with_power negative before after None = None
-with_power negative before after (Some power) = Some (Decimal negative before after (with_sign power.0 (digits_value 10 power.1)))
+with_power negative before after (Some power) =
+    Some (Decimal negative before after (with_sign power.0 (digits_value 10 power.1)))
 
 -- a decimal, where it has digits and an exponent can be read
 unfoldable pub decimal_of : Bool → List ℕ → List ℕ → List ℕ → Option NumberForm
 decimal_of negative before after power =
-    if nat_lt 0 (length before) || nat_lt 0 (length after) then with_power negative before after (power_of power) else None
+    if nat_lt 0 (length before) || nat_lt 0 (length after)
+    then with_power negative before after (power_of power) else None
 
 -- a fraction, where it has digits above and below, and not zero below
 unfoldable pub fraction_of : Bool → List ℕ → List ℕ → Option NumberForm
 fraction_of negative top bottom =
-    if nat_lt 0 (length top) && are_digits bottom && not (list_all is_zero bottom) then Some (Fraction negative top bottom) else None
+    if nat_lt 0 (length top) && are_digits bottom && not (list_all is_zero bottom)
+    then Some (Fraction negative top bottom) else None
 
 -- the form of first digits and what comes after them
 unfoldable pub form_with : Bool → List ℕ → List ℕ → Option NumberForm
 form_with negative before [] = decimal_of negative before [] []
 form_with negative before (b ∷ bytes) =
     if b == 47 then fraction_of negative before bytes
-    else (if b == 46 then decimal_of negative before (take_while is_ascii_digit bytes) (following is_ascii_digit bytes) else decimal_of negative before [] (b ∷ bytes))
+    else (if b == 46
+    then decimal_of negative before (take_while is_ascii_digit bytes)
+    (following is_ascii_digit bytes) else decimal_of negative before [] (b ∷ bytes))
 
 -- ---- answers
 -- the number that digits stand for, exactly where no more than 36 of them count
 abbrev pub GivesSize : List ℕ → Option ℕ → Type 0
 GivesSize digits answer =
-    MatchOption answer (36 < length (without_leading_zeros digits)) (λ n. (n ≡ digits_value 10 digits) × (n < 10 ^ 36) × (length (without_leading_zeros digits) ≤ 36))
+    MatchOption answer (36 < length (without_leading_zeros digits))
+    (λ n. (n ≡ digits_value 10 digits) × (n < 10 ^ 36)
+    × (length (without_leading_zeros digits) ≤ 36))
 
 -- the number, exactly where its parts are below 2^63
 abbrev pub GivesShort : ℚ → Option ℚ → Type 0
@@ -74,7 +82,8 @@ GivesShort q answer = MatchOption answer (¬ (IsShort q)) (λ f. (f ≡ q) × Is
 
 -- the value of the form, exactly where it is within the limits
 abbrev pub GivesValue : NumberForm → Option ℚ → Type 0
-GivesValue form answer = MatchOption answer (¬ (IsWithinLimits form)) (λ f. (f ≡ form_value form) × IsWithinLimits form)
+GivesValue form answer =
+    MatchOption answer (¬ (IsWithinLimits form)) (λ f. (f ≡ form_value form) × IsWithinLimits form)
 
 -- the value of the form that was read, or the fault
 abbrev pub Answers : Option NumberForm → Result ℚ NumberFault → Type 0

@@ -27,14 +27,16 @@ abbrev pub FirstIs : (ℕ → Type 0) → List ℕ → Type 0
 FirstIs P [] = ⊥
 FirstIs P (b ∷ bytes) = P b
 
--- The bytes between the quotes spell a text: `\"` is a quote, any other backslash is itself, and no other
--- quote stands there. The last byte is no backslash, since that would spell a quote with the one that closes.
+-- The bytes between the quotes spell a text: `\"` is a quote, any other backslash is itself, and no
+-- other quote stands there. The last byte is no backslash, since that would spell a quote with the
+-- one that closes.
 abbrev pub SpellsText : List ℕ → List ℕ → Type 0
 SpellsText [] text = text ≡ []
 SpellsText (b ∷ []) text = (b ≢ 34) × (b ≢ 92) × (text ≡ b ∷ [])
 SpellsText (b ∷ c ∷ bytes) text =
     ((b ≡ 92) × (c ≡ 34) × (rest : List ℕ) × (text ≡ 34 ∷ rest) × SpellsText bytes rest)
-    ⊎ ((b ≢ 34) × (b ≡ 92 → c ≢ 34) × (rest : List ℕ) × (text ≡ b ∷ rest) × SpellsText (c ∷ bytes) rest)
+    ⊎ ((b ≢ 34) × (b ≡ 92 → c ≢ 34) × (rest : List ℕ) × (text ≡ b ∷ rest)
+    × SpellsText (c ∷ bytes) rest)
 
 -- the longest run of bare bytes: all of them are bare, and none follows
 pub record IsRun (run rest : List ℕ) : Type 0 where
@@ -47,16 +49,21 @@ abbrev pub IsTokenAt : List ℕ → List ℕ → Token → Type 0
 IsTokenAt bytes rest Left = bytes ≡ 123 ∷ []
 IsTokenAt bytes rest Right = bytes ≡ 125 ∷ []
 IsTokenAt bytes rest Comma = bytes ≡ 44 ∷ []
-IsTokenAt bytes rest (Text text) = (inner : List ℕ) × (bytes ≡ 34 ∷ inner ++ 34 ∷ []) × SpellsText inner text
+IsTokenAt bytes rest (Text text) =
+    (inner : List ℕ) × (bytes ≡ 34 ∷ inner ++ 34 ∷ []) × SpellsText inner text
 IsTokenAt bytes rest (Word word) = IsRun bytes rest × FirstIs IsLetter bytes × (word ≡ bytes)
-IsTokenAt bytes rest (Number value) = IsRun bytes rest × ¬ (FirstIs IsLetter bytes) × IsNumber bytes value
+IsTokenAt bytes rest (Number value) =
+    IsRun bytes rest × ¬ (FirstIs IsLetter bytes) × IsNumber bytes value
 
--- From this offset on the bytes are these tokens, with blanks before them and between them, and then blanks and the rest.
+-- From this offset on the bytes are these tokens, with blanks before them and between them, and
+-- then blanks and the rest.
 abbrev pub AreTokensBefore : ℕ → List ℕ → List Spanned → List ℕ → Type 0
-AreTokensBefore at bytes [] rest = (blanks : List ℕ) × AllByRecursion IsBlank blanks × (bytes ≡ blanks ++ rest)
+AreTokensBefore at bytes [] rest =
+    (blanks : List ℕ) × AllByRecursion IsBlank blanks × (bytes ≡ blanks ++ rest)
 AreTokensBefore at bytes (spanned ∷ tokens) rest =
     (blanks front back : List ℕ) × AllByRecursion IsBlank blanks × (bytes ≡ blanks ++ front ++ back)
-    × IsTokenAt front back spanned.token × (spanned.start ≡ at + length blanks) × (spanned.end ≡ spanned.start + length front)
+    × IsTokenAt front back spanned.token × (spanned.start ≡ at + length blanks)
+    × (spanned.end ≡ spanned.start + length front)
     × AreTokensBefore spanned.end back tokens rest
 
 -- the bytes are these tokens
@@ -76,9 +83,14 @@ pub record BeginsNoToken (b : ℕ) : Type 0 where
 abbrev pub BeginsWithFault : List ℕ → TextKind → Type 0
 BeginsWithFault bytes BadChar = FirstIs BeginsNoToken bytes
 BeginsWithFault bytes OpenText =
-    FirstIs (λ b. b ≡ 34) bytes × ((inner text rest : List ℕ) → bytes ≡ 34 ∷ inner ++ 34 ∷ rest → SpellsText inner text → ⊥)
-BeginsWithFault bytes BadNumber = (run rest : List ℕ) × (bytes ≡ run ++ rest) × IsRun run rest × ¬ (FirstIs IsLetter run) × IsNoNumber run
-BeginsWithFault bytes NumberTooLarge = (run rest : List ℕ) × (bytes ≡ run ++ rest) × IsRun run rest × ¬ (FirstIs IsLetter run) × IsTooLarge run
+    FirstIs (λ b. b ≡ 34) bytes
+    × ((inner text rest : List ℕ) → bytes ≡ 34 ∷ inner ++ 34 ∷ rest → SpellsText inner text → ⊥)
+BeginsWithFault bytes BadNumber =
+    (run rest : List ℕ) × (bytes ≡ run ++ rest) × IsRun run rest × ¬ (FirstIs IsLetter run)
+    × IsNoNumber run
+BeginsWithFault bytes NumberTooLarge =
+    (run rest : List ℕ) × (bytes ≡ run ++ rest) × IsRun run rest × ¬ (FirstIs IsLetter run)
+    × IsTooLarge run
 
 -- the first fault: up to its offset the bytes are tokens and blanks
 pub record IsFirstFault (bytes : List ℕ) (at : ℕ) (kind : TextKind) : Type 0 where

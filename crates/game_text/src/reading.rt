@@ -151,7 +151,7 @@ fn fault(kind: TextKind, at: usize) -> TextStop
     TextStop::Fault(TextFault { at, kind })
 }
 
-/// Reads the tokens of a source in one pass.
+/// Reads the tokens of a source.
 ///
 /// # Errors
 ///

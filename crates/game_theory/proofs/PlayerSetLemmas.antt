@@ -4,9 +4,7 @@ use Rattle.std.specs.Prelude.{◌||◌}
 use Rattle.std.specs.List.{AllByRecursion, IsDistinct, flat_map, list_any, range_with_len}
 use Rattle.std.proofs.Math.Dec.{eqb}
 use Rattle.std.proofs.lemmas.Bool.{cases_Bool, cases_eq, eqb-true}
-use Rattle.std.proofs.lemmas.List.Concat.{flat_map-append}
 use Rattle.std.proofs.lemmas.Map.Steps.{length-le_from_distinct_below}
-use Rattle.rational.specs.Rational.{ℚ}
 use Rattle.game_theory.specs.Behaviour.{pure}
 use Rattle.game_theory.specs.Lines.{entries, listed}
 use Rattle.game_theory.specs.Mixed.{sure, pure as pure_profile}

@@ -1,6 +1,6 @@
 -- Behaviour at the sets of a tree, and what it pays. Source: Kuhn 1953.
 use Rattle.std.specs.Prelude.{ℕ, zero, suc, ◌<◌, ◌≡◌, ◌==◌, ◌&&◌, nat_lt, Bool, true, false, if◌then◌else◌, Option, Some, None}
-use Rattle.rational.specs.Rational.{ℚ, ◌+ℚ◌, ◌*ℚ◌, zero_ℚ, one_ℚ}
+use Rattle.rational.specs.Rational.{ℚ, ◌+ℚ◌, ◌*ℚ◌, zero_ℚ}
 use Rattle.rational.specs.Sum.{IsDistribution, sum_to}
 use Rattle.game_theory.specs.Mixed.{sure}
 use Rattle.game_theory.specs.Trees.{Tree}
@@ -35,12 +35,16 @@ branch_probability t b c = at_set t b (t.set (t.parent c)) (t.branch c)
 abbrev pub is_parent : Tree → ℕ → ℕ → Bool
 is_parent t k c = nat_lt 0 c && (t.parent c == k)
 
--- The value of node k for player i, where what lies d edges or more below counts as 0: what its outcome pays, and the
--- children's values, weighted with the probabilities of the actions that lead to them.
+-- The value of node k for player i, where what lies d edges or more below counts as 0: what its
+-- outcome pays, and the children's values, weighted with the probabilities of the actions that lead
+-- to them.
 abbrev pub value_to : Tree → Behaviour → ℕ → ℕ → ℕ → ℚ
 value_to t b i zero k = zero_ℚ
 value_to t b i (suc d) k =
-    t.pays k i +ℚ sum_to t.size (λ c. elim (is_parent t k c) [ true ↦ branch_probability t b c *ℚ value_to t b i d c | false ↦ zero_ℚ ])
+    t.pays k i
+    +ℚ sum_to t.size
+    (λ c. elim (is_parent t k c)
+    [ true ↦ branch_probability t b c *ℚ value_to t b i d c | false ↦ zero_ℚ ])
 
 -- the value of a node: a path has fewer edges than there are nodes
 abbrev pub value : Tree → Behaviour → ℕ → ℕ → ℚ

@@ -17,12 +17,14 @@ pub record ProfilesAreNumbered (ns : List ℕ) : Type 0 where
 -- a pure profile pays its cell
 abbrev pub PurePaysItsCell : Type 0
 PurePaysItsCell =
-    (g : Game) (s : List ℕ) (i : ℕ) → IsProfile g.strategies s → payoff g (pure s) i ≡ g.pays i (number_of g.strategies s)
+    (g : Game) (s : List ℕ) (i : ℕ) → IsProfile g.strategies s
+    → payoff g (pure s) i ≡ g.pays i (number_of g.strategies s)
 
 -- a pure reply to a pure profile pays the cell of the profile with that player's strategy exchanged
 abbrev pub PureReplyPaysItsCell : Type 0
 PureReplyPaysItsCell =
-    (g : Game) (s : List ℕ) (i t j : ℕ) → IsProfile g.strategies s → i < length g.strategies → t < slice_index g.strategies i
+    (g : Game) (s : List ℕ) (i t j : ℕ) → IsProfile g.strategies s → i < length g.strategies
+    → t < slice_index g.strategies i
     → payoff g (reply (pure s) i t) j ≡ g.pays j (number_of g.strategies (slice_set s i t))
 
 -- no player has a greater payoff in a cell that only their own strategy tells from the profile's
@@ -34,7 +36,8 @@ NoGreaterCell g s =
 -- a pure profile is an equilibrium exactly where no player has a cell with a greater payoff
 abbrev pub PureEquilibriaByCells : Type 0
 PureEquilibriaByCells =
-    (g : Game) (s : List ℕ) → IsProfile g.strategies s → IsEquilibrium g (pure s) ↔ NoGreaterCell g s
+    (g : Game) (s : List ℕ) → IsProfile g.strategies s
+    → IsEquilibrium g (pure s) ↔ NoGreaterCell g s
 
 -- a player's payoff is the mean of the payoffs of their pure replies
 abbrev pub PayoffIsMeanOfReplies : Type 0

@@ -1,23 +1,22 @@
 -- Perfect recall. Source: Kuhn 1953; von Stengel 1996.
-use Rattle.std.specs.Prelude.{ℕ, zero, suc, ◌<◌, ◌≡◌, if◌then◌else◌, List, [], ◌∷◌, ◌++◌, Option, Some, None}
+use Rattle.std.specs.Prelude.{ℕ, ◌<◌, ◌≡◌, if◌then◌else◌, List, [], ◌∷◌, ◌++◌, Option, Some, None}
 use Rattle.game_theory.specs.Trees.{Tree}
 use Rattle.game_theory.specs.Behaviour.{is_own}
+use Rattle.game_theory.specs.Paths.{on_path}
 
--- the set and the action of one step of a path, where the set is player i's own
+-- the set and the action of an edge, where the set is player i's own
 abbrev pub own_edge : Tree → ℕ → Option ℕ → ℕ → List (ℕ × ℕ)
 own_edge t i None a = []
 own_edge t i (Some s) a = if is_own t i s then (s, a) ∷ [] else []
 
--- player i's sets and actions on the last n edges of the path to node k
-abbrev pub history_to : Tree → ℕ → ℕ → ℕ → List (ℕ × ℕ)
-history_to t i zero k = []
-history_to t i (suc n) zero = []
-history_to t i (suc n) (suc k) = history_to t i n (t.parent (suc k)) ++ own_edge t i (t.set (t.parent (suc k))) (t.branch (suc k))
+-- the own history of node c, by that of its parent
+abbrev pub with_edge_to : Tree → ℕ → ℕ → List (ℕ × ℕ) → List (ℕ × ℕ)
+with_edge_to t i c before = before ++ own_edge t i (t.set (t.parent c)) (t.branch c)
 
--- The own history of node k for player i: that player's sets and actions on the path to it, the choice at the node itself
--- not included. The path has at most k edges, since each node stands after its parent.
+-- the own history of node k for player i: that player's sets and actions on the path to it, the
+-- choice at the node itself not included
 abbrev pub own_history : Tree → ℕ → ℕ → List (ℕ × ℕ)
-own_history t i k = history_to t i k k
+own_history t i k = on_path t [] (with_edge_to t i) k
 
 -- the nodes of set s have one own history for player i
 abbrev pub HaveOneHistory : Tree → ℕ → ℕ → Type 0

@@ -38,13 +38,15 @@ tree_of players rows owners = record {
   chance = λ s a. frac (pos 1) 2;
 }
 
--- Fred draws a red or a black card (set 0). He raises or folds on red (set 1) and on black (set 2), and Alice, who does not see
--- the card, meets or passes (set 3).
+-- Fred draws a red or a black card (set 0). He raises or folds on red (set 1) and on black (set 2),
+-- and Alice, who does not see the card, meets or passes (set 3).
 abbrev pub one_card_poker : Tree
 one_card_poker = tree_of 2
     (inner 0 0 0
-    ∷ inner 0 0 1 ∷ inner 1 0 3 ∷ end 2 0 (pos 2 ∷ negsuc 1 ∷ []) ∷ end 2 1 (pos 1 ∷ negsuc 0 ∷ []) ∷ end 1 1 (pos 1 ∷ negsuc 0 ∷ [])
-    ∷ inner 0 1 2 ∷ inner 6 0 3 ∷ end 7 0 (negsuc 1 ∷ pos 2 ∷ []) ∷ end 7 1 (pos 1 ∷ negsuc 0 ∷ []) ∷ end 6 1 (negsuc 0 ∷ pos 1 ∷ []) ∷ [])
+    ∷ inner 0 0 1 ∷ inner 1 0 3 ∷ end 2 0 (pos 2 ∷ negsuc 1 ∷ []) ∷ end 2 1 (pos 1 ∷ negsuc 0 ∷ [])
+    ∷ end 1 1 (pos 1 ∷ negsuc 0 ∷ [])
+    ∷ inner 0 1 2 ∷ inner 6 0 3 ∷ end 7 0 (negsuc 1 ∷ pos 2 ∷ []) ∷ end 7 1 (pos 1 ∷ negsuc 0 ∷ [])
+    ∷ end 6 1 (negsuc 0 ∷ pos 1 ∷ []) ∷ [])
     (None ∷ Some 0 ∷ Some 0 ∷ Some 1 ∷ [])
 
 -- Fred raises on red, and with probability 1/3 on black; Alice meets with probability 2/3.
@@ -61,10 +63,12 @@ pub record PokerIsWorthAThird : Type 0 where
   pub fred : payoff one_card_poker bluffs 0 ≡ frac (pos 1) 3
   pub alice : payoff one_card_poker bluffs 1 ≡ frac (negsuc 0) 3
 
--- A firm stays out (action 0) or enters (set 0), and after an entry the other fights (action 0) or shares the market (set 1).
+-- A firm stays out (action 0) or enters (set 0), and after an entry the other fights (action 0) or
+-- shares the market (set 1).
 abbrev pub entry_game : Tree
 entry_game = tree_of 2
-    (inner 0 0 0 ∷ end 0 0 (pos 0 ∷ pos 2 ∷ []) ∷ inner 0 1 1 ∷ end 2 0 (negsuc 0 ∷ negsuc 0 ∷ []) ∷ end 2 1 (pos 1 ∷ pos 1 ∷ []) ∷ [])
+    (inner 0 0 0 ∷ end 0 0 (pos 0 ∷ pos 2 ∷ []) ∷ inner 0 1 1 ∷ end 2 0 (negsuc 0 ∷ negsuc 0 ∷ [])
+    ∷ end 2 1 (pos 1 ∷ pos 1 ∷ []) ∷ [])
     (Some 0 ∷ Some 1 ∷ [])
 
 -- the action at each of the two sets
@@ -72,20 +76,23 @@ abbrev pub both : ℕ → ℕ → ℕ → ℕ
 both first second zero = first
 both first second (suc s) = second
 
--- to stay out against a fight, and to enter a market that is shared, are the equilibria of the entry game in which no choice is random
+-- to stay out against a fight, and to enter a market that is shared, are the equilibria of the
+-- entry game in which no choice is random
 pub record EntryHasTwoPureEquilibria : Type 0 where
   pub tree : IsTree entry_game
   pub stays_out : IsEquilibrium entry_game (pure (both 0 0))
   pub enters : IsEquilibrium entry_game (pure (both 1 1))
-  pub no_other : (choice : ℕ → ℕ) → IsEquilibrium entry_game (pure choice) → ((choice 0 ≡ 0) × (choice 1 ≡ 0)) ⊎ ((choice 0 ≡ 1) × (choice 1 ≡ 1))
+  pub no_other : (choice : ℕ → ℕ) → IsEquilibrium entry_game (pure choice)
+      → ((choice 0 ≡ 0) × (choice 1 ≡ 0)) ⊎ ((choice 0 ≡ 1) × (choice 1 ≡ 1))
 
--- A player chooses (set 0), chance may end the game (set 2), and else the player chooses again and has forgotten the first choice
--- (set 1).
+-- A player chooses (set 0), chance may end the game (set 2), and else the player chooses again and
+-- has forgotten the first choice (set 1).
 abbrev pub forgetful_game : Tree
 forgetful_game = tree_of 1
     (inner 0 0 0
     ∷ inner 0 0 2 ∷ inner 1 0 1 ∷ end 2 0 (pos 1 ∷ []) ∷ end 2 1 (pos 0 ∷ []) ∷ end 1 1 (pos 0 ∷ [])
-    ∷ inner 0 1 2 ∷ inner 6 0 1 ∷ end 7 0 (pos 0 ∷ []) ∷ end 7 1 (pos 2 ∷ []) ∷ end 6 1 (pos 0 ∷ []) ∷ [])
+    ∷ inner 0 1 2 ∷ inner 6 0 1 ∷ end 7 0 (pos 0 ∷ []) ∷ end 7 1 (pos 2 ∷ []) ∷ end 6 1 (pos 0 ∷ [])
+    ∷ [])
     (Some 0 ∷ Some 0 ∷ None ∷ [])
 
 -- both players recall their choices in poker, and the forgetful player does not

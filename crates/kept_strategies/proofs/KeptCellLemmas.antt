@@ -1,11 +1,10 @@
 -- The payoffs of the table over the kept strategies, profile after profile.
-use Rattle.std.proofs.Common.{ℕ, ◌+◌, ◌*◌, ◌/◌, ◌%◌, ◌<◌, ◌≡◌, inl, inr, List, [], ◌∷◌, ◌++◌, length, get_or, sym, ap, ◌∙◌, subst, arith}
+use Rattle.std.proofs.Common.{ℕ, ◌+◌, ◌*◌, ◌<◌, ◌≡◌, inl, inr, List, [], ◌∷◌, ◌++◌, length, get_or, sym, ap, ◌∙◌, subst, arith}
 use Rattle.std.proofs.lemmas.Bool.{cases_lt}
-use Rattle.std.proofs.lemmas.Nat.{mod_below, div_below}
 use Rattle.std.proofs.lemmas.List.{get_or_append_left, get_or_push, length_push}
-use Rattle.std.proofs.Math.Nat.{mod-add-div, mul_comm}
+use Rattle.std.proofs.Math.Nat.{mul_comm}
 use native.Mathlib.Nat as N
-use Rattle.lists.proofs.NumberLemmas.{below_two, positive_factor}
+use Rattle.lists.proofs.NumberLemmas.{below_two}
 use Rattle.rational.specs.Rational.{ℚ, zero_ℚ}
 use Rattle.game_theory.specs.Profiles.{Game, number_of, profile_at, strategies_at}
 use Rattle.game_theory.proofs.ProfileNumberLemmas.{profile_at-number_of}
@@ -25,14 +24,12 @@ cells-next u n xs new a b long before is first second i k l h = ap (λ ys. get_o
     two : get_or ((xs ++ a ∷ []) ++ b ∷ []) (n * 2 + 1) zero_ℚ ≡ u 1 n
     two = get_or_push (xs ++ a ∷ []) b zero_ℚ (n * 2 + 1) (omega (arith, length_push xs a)) ∙ second
 
--- the profile with a number
-pub profile-two : (m n k : ℕ) → k < m * n → profile_at (m ∷ n ∷ []) k ≡ (k % m) ∷ (k / m) ∷ []
-profile-two m n k l =
-    let some : 0 < m = positive_factor m n k l in
-    let e : (k % m) + m * ((k / m) + n * 0) ≡ k = ap (λ x. (k % m) + m * x) (ap (λ x. (k / m) + x) (N.mul-zero n) ∙ N.add-zero (k / m)) ∙ mod-add-div k m in
-    subst (λ x. profile_at (m ∷ n ∷ []) x ≡ (k % m) ∷ (k / m) ∷ []) e (profile_at-number_of (m ∷ n ∷ []) ((k % m) ∷ (k / m) ∷ []) (mod_below k m some, (div_below k m n some (rw (mul_comm n m) l), tt)))
-
--- what it pays
-pub pays-two : (g : Game) (first second : List ℕ) (i k : ℕ) → k < length first * length second
-    → g.pays i (number_of g.strategies (get_or first (k % length first) 0 ∷ get_or second (k / length first) 0 ∷ [])) ≡ (kept_table g (first ∷ second ∷ [])).pays i k
-pays-two g first second i k l = ap (λ x. g.pays i (number_of g.strategies (strategies_at (first ∷ second ∷ []) x))) (sym (profile-two (length first) (length second) k l))
+-- what the profile of a row and a column pays
+pub pays-cell : (g : Game) (first second : List ℕ) (i row column : ℕ) → row < length first → column < length second
+    → g.pays i (number_of g.strategies (get_or first row 0 ∷ get_or second column 0 ∷ [])) ≡ (kept_table g (first ∷ second ∷ [])).pays i (column * length first + row)
+pays-cell g first second i row column r l =
+    let m = length first in
+    let n = length second in
+    let number : row + m * (column + n * 0) ≡ column * m + row = ap (λ x. row + m * x) (ap (λ x. column + x) (N.mul-zero n) ∙ N.add-zero column) ∙ ap (λ x. row + x) (mul_comm m column) ∙ omega arith in
+    let profile : profile_at (m ∷ n ∷ []) (column * m + row) ≡ row ∷ column ∷ [] = subst (λ k. profile_at (m ∷ n ∷ []) k ≡ row ∷ column ∷ []) number (profile_at-number_of (m ∷ n ∷ []) (row ∷ column ∷ []) (r, (l, tt))) in
+    ap (λ x. g.pays i (number_of g.strategies (strategies_at (first ∷ second ∷ []) x))) (sym profile)

@@ -1,5 +1,5 @@
--- What is known of pairs of a player's strategies while strictly dominated ones are looked for, in a
--- game of two players. Strategies count from 0.
+-- What is known of pairs of a player's strategies while strictly dominated ones are looked for, in
+-- a game of two players. Strategies count from 0.
 use Rattle.std.specs.Prelude.{ℕ, ◌+◌, ◌*◌, ◌<◌, ◌≡◌, List, length, slice_index, Contains}
 use Rattle.rational.specs.Rational.{◌<ℚ◌}
 use Rattle.game_theory.specs.Profiles.{Game}

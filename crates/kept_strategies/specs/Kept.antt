@@ -48,8 +48,8 @@ pub record IsKeptForm (table : GameTable) (kept : KeptForm) : Type 0 where
 abbrev pub most_strategies : ℕ
 most_strategies = 512
 
--- The table over the kept strategies of a table of two players, who together have few enough; or why
--- they are not looked for.
+-- The table over the kept strategies of a table of two players, who together have few enough; or
+-- why they are not looked for.
 abbrev pub kept_of : GameTable → Answer KeptStop KeptForm
 kept_of table =
     refuse_where (length table.players ≢ 2) (stops.NotTwoPlayers (length table.players))

@@ -2,7 +2,6 @@
 // 0.
 ghost use Rattle.std.specs.Prelude.{◌≡◌, ◌<◌, ◌≤◌, ◌⊎◌, ◌↔◌, ℕ, [], ◌∷◌, All, Contains, IfOk, IsTrue, MatchOption, length, slice_index, sum};
 ghost use Rattle.std.specs.List.Sorted.{IsStrictlyIncreasing};
-ghost use Rattle.rational.specs.Rational.{◌<ℚ◌};
 ghost use Rattle.lists.specs.Listed.{AreListed};
 ghost use Rattle.extreme_equilibria.specs.Elimination.{IsDominated, AreKeptAfter};
 ghost use Rattle.extreme_equilibria.specs.KeptTable.{AreKeptLists};
@@ -17,7 +16,7 @@ use game_core::Table;
 use std::alloc::Global;
 
 // What a player gets for a strategy against one of the other player.
-fn payoff(table: &Table, player: u32, own: u32, against: u32) -> Frac
+pub(crate) fn payoff(table: &Table, player: u32, own: u32, against: u32) -> Frac
     requires valid { IsTable table.now }
     requires two { length table.now.players ≡ 2 }
     requires player { player < 2 }

@@ -8,7 +8,7 @@ ghost use Rattle.game_core.specs.Table.{GameTable, IsTable, game_of, strategy_co
 ghost use Rattle.kept_strategies.specs.declared.kept_stop.KeptStop.TheVariants as stops;
 ghost use Rattle.kept_strategies.specs.Kept.{IsKeptForm, kept_of, most_strategies};
 
-use crate::elimination::kept_strategies;
+use crate::elimination::{kept_strategies, payoff};
 use crate::kept_stop::KeptStop;
 use answers::Memory;
 use frac128::Frac;
@@ -99,12 +99,12 @@ fn payoffs_at(
         → entry_at payoffs.items (k * 2 + i)
         ≡ (kept_table (game_of table.now) (first.now ∷ second.now ∷ [])).pays i k) }
 {
-    let profiles = first.len() * second.len();
-    let mut payoffs = Vec::with_capacity(alloc, profiles * 2)?;
-    for number in 0..profiles {
-        let profile = [first[number % first.len()], second[number / first.len()]];
-        payoffs.push(table.payoff(&profile, 0))?;
-        payoffs.push(table.payoff(&profile, 1))?;
+    let mut payoffs = Vec::with_capacity(alloc, first.len() * second.len() * 2)?;
+    for column in second {
+        for row in first {
+            payoffs.push(payoff(table, 0, *row, *column))?;
+            payoffs.push(payoff(table, 1, *column, *row))?;
+        }
     }
     Ok(payoffs)
 }

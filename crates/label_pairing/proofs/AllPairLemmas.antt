@@ -1,5 +1,5 @@
 -- All pairs are exactly the pairs, in ascending order
-use Rattle.std.proofs.Common.{ℕ, zero, suc, ◌<◌, ◌≡◌, ◌≢◌, ◌⊎◌, inl, inr, Bool, true, false, cond, List, [], ◌∷◌, All, length, map, get_or, refl, sym, ap, ◌∙◌, subst, subst₂, arith}
+use Rattle.std.proofs.Common.{ℕ, zero, suc, ◌<◌, ◌≡◌, ◌≢◌, ◌⊎◌, inl, inr, Bool, true, false, cond, nat_eq, ◌&&◌, ◌↔◌, List, [], ◌∷◌, All, length, map, get_or, refl, sym, ap, ◌∙◌, subst, subst₂, arith, tests}
 use Rattle.std.specs.Prelude.{Contains}
 use Rattle.std.specs.List.{AllPairs, filter, range_with_len}
 use Rattle.std.proofs.lemmas.Bool.{cases_lt}
@@ -10,6 +10,7 @@ use Rattle.answers.specs.Answers.{only, refused_by}
 use Rattle.answers.proofs.AnswerLemmas.{bind-single, only-single, refuse_where-single, refused_by-single}
 use Rattle.lists.proofs.ElementLemmas.{AllPairs-append}
 use Rattle.linear_systems.specs.Vertices.{MarkedPoint}
+use Rattle.extreme_equilibria.specs.PairLines.{low_labels, high_labels, HaveAllLabels}
 use Rattle.game_core.specs.Limits.{within}
 use Rattle.game_core.specs.declared.too_large.What.TheVariants as what
 use Rattle.label_pairing.specs.Pairs.{are_together, mark_at, places, all_pairs, most_pairs}
@@ -86,18 +87,47 @@ module _ (all : List ℕ) (first second : List MarkedPoint) where
   abbrev test : ℕ × ℕ → Bool
   test p = are_together all (mark_at first p.0) (mark_at second p.1)
 
-  exactly_out : (i j : ℕ) → Contains (all_pairs all first second) (i, j) → IsPair all first second i j
-  exactly_out i j c =
+  -- two places whose marks pass the test
+  abbrev IsPassing : ℕ → ℕ → Type 0
+  IsPassing i j = (i < length first) × (j < length second) × (test (i, j) ≡ true)
+
+  passing_out : (i j : ℕ) → Contains (all_pairs all first second) (i, j) → IsPassing i j
+  passing_out i j c =
       let ps = places (length first) (length second) in
       let inside = places_out (length first) (length second) (i, j) (All-contains (Contains ps) (filter test ps) (i, j) (All-filter test (Contains ps) ps (All-contains_itself ps)) c) in
-      record { in_first = inside.0; in_second = inside.1; together = All-contains (λ p. test p ≡ true) (filter test ps) (i, j) (filter_passes test ps) c }
+      (inside.0, inside.1, All-contains (λ p. test p ≡ true) (filter test ps) (i, j) (filter_passes test ps) c)
 
-  exactly_in : (i j : ℕ) → IsPair all first second i j → Contains (all_pairs all first second) (i, j)
-  exactly_in i j h = kept test (places (length first) (length second)) (i, j) h.together (places_in (length first) (length second) i j h.in_first h.in_second)
+  passing_in : (i j : ℕ) → IsPassing i j → Contains (all_pairs all first second) (i, j)
+  passing_in i j h = kept test (places (length first) (length second)) (i, j) h.2 (places_in (length first) (length second) i j h.0 h.1)
+
+-- two tests that both pass
+pub parts_out : (a b c d : ℕ) → nat_eq a c && nat_eq b d ≡ true → (a ≡ c) × (b ≡ d)
+parts_out a b c d e = grind (arith, tests)
+
+pub parts_in : (a b c d : ℕ) → a ≡ c → b ≡ d → nat_eq a c && nat_eq b d ≡ true
+parts_in a b c d e f = grind (arith, tests)
+
+-- the test tells whether two marks together have all of n labels
+test_is : (n : ℕ) (one two : MarkedPoint) → (are_together (low_labels n ∷ high_labels n ∷ []) one two ≡ true) ↔ HaveAllLabels n one two
+test_is n one two = (λ e. let w = parts_out _ _ _ _ e in record { low = w.0; high = w.1 }, λ h. parts_in _ _ _ _ h.low h.high)
+
+module _ (n : ℕ) (first second : List MarkedPoint) where
+  abbrev labels : List ℕ
+  labels = low_labels n ∷ high_labels n ∷ []
+
+  exactly_out : (i j : ℕ) → Contains (all_pairs labels first second) (i, j) → IsPair n first second i j
+  exactly_out i j c =
+      let h = passing_out labels first second i j c in
+      record { in_first = h.0; in_second = h.1; labels = (test_is n (mark_at first i) (mark_at second j)).0 h.2 }
+
+  exactly_in : (i j : ℕ) → IsPair n first second i j → Contains (all_pairs labels first second) (i, j)
+  exactly_in i j h =
+      passing_in labels first second i j (h.in_first, h.in_second, (test_is n (mark_at first i) (mark_at second j)).1 h.labels)
 
 pub exactly_those : PairsAreExactlyThose
 exactly_those = record {
-  exactly = λ all first second i j. (exactly_out all first second i j, exactly_in all first second i j);
+  exactly = λ n first second i j. (exactly_out n first second i j, exactly_in n first second i j);
+  passing = λ all first second i j. (passing_out all first second i j, passing_in all first second i j);
   ascending = λ all first second. AllPairs-filter Earlier _ (places (length first) (length second)) (places_ascending (length first) (length second));
 }
 

@@ -69,19 +69,6 @@ fn sum(point: &[Frac]) -> Result<Frac, Unfit>
     Ok(sum)
 }
 
-// The entries of a point divided by their sum.
-fn scaled(alloc: Global, point: &[Frac]) -> Result<Vec<Frac>, ScaleStop>
-    requires { IsScalable point.now }
-    ensures { Gives stops.Memory (scaled_in point.now) (map_ok result (λ scaled. scaled.items)) }
-{
-    let sum = sum(point)?;
-    let mut scaled = Vec::with_capacity(alloc, point.len())?;
-    for entry in point {
-        scaled.push(entry.div(sum)?)?;
-    }
-    Ok(scaled)
-}
-
 /// The values of a vertex, each divided by the sum of all.
 ///
 /// # Errors
@@ -93,5 +80,11 @@ pub fn scale(alloc: Global, vertex: &Vertex) -> Result<Vec<Frac>, ScaleStop>
     ensures { Gives stops.Memory (scaled_in vertex.now.point.items)
         (map_ok result (λ scaled. scaled.items)) }
 {
-    scaled(alloc, vertex.point.as_slice())
+    let point = vertex.point.as_slice();
+    let sum = sum(point)?;
+    let mut scaled = Vec::with_capacity(alloc, point.len())?;
+    for entry in point {
+        scaled.push(entry.div(sum)?)?;
+    }
+    Ok(scaled)
 }

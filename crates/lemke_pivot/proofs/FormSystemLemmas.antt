@@ -1,8 +1,6 @@
 -- The system of a form's problem has the form's costs.
-use Rattle.sequence_data.specs.Sizes.{form_sizes, problem_rows}
-use Rattle.std.proofs.Common.{ℕ, ◌<◌, ◌≤◌, ◌≡◌, ◌+◌, ◌*◌, ◌-◌, ◌^◌, inl, inr, Bool, true, false, cond, eqb, List, [], ◌∷◌, All, Result, map, get_or, refl, sym, ap, ◌∙◌, subst, subst₂, arith, tests}
+use Rattle.std.proofs.Common.{ℕ, ◌<◌, ◌≡◌, ◌+◌, ◌*◌, ◌-◌, inl, inr, Bool, true, false, cond, eqb, List, [], ◌∷◌, All, Result, map, get_or, refl, sym, ap, ◌∙◌, subst, subst₂, arith, tests}
 use Rattle.std.specs.Prelude.{◌==◌, ◌&&◌, if◌then◌else◌, IfOk}
-use Rattle.std.proofs.Math.Nat.{mul-le-mul_right}
 use Rattle.std.proofs.lemmas.Bool.{cases_lt}
 use Rattle.lists.proofs.OptionLemmas.{if_ok-then}
 use Rattle.rational.specs.Rational.{ℚ, ◌+ℚ◌, ◌-ℚ◌, ◌*ℚ◌, neg_ℚ, one_ℚ, zero_ℚ}
@@ -11,7 +9,6 @@ use Rattle.rational.proofs.RationalRing.{rational_ring}
 use Rattle.rational.proofs.Ring.{ring, num, ◌:+◌, ◌:-◌, ◌:*◌, A, B, C, D, E}
 use Rattle.linear_systems.specs.Rows.{Alike}
 use Rattle.linear_systems.proofs.AgreementLemmas.{alike_trans}
-use Rattle.game_core.specs.Limits.{most_rows}
 use Rattle.sequence_forms.specs.Lists.{listed_at}
 use Rattle.sequence_forms.specs.Prices.{costs, cost_at}
 use Rattle.sequence_forms.specs.Sides.{Side, sequences}
@@ -91,13 +88,6 @@ module _ (f : FormData) (valid : IsFormData f) where
 
   second_count : f.second.sequences ≡ sequences (side_of f.second)
   second_count = valid.second_is.sequences_are
-
-  pub few_costs : problem_rows (form_sizes f) ≤ most_rows → f.first.sequences * f.second.sequences < 2 ^ 32
-  few_costs few =
-      let x : f.first.sequences ≤ 512 = omega (arith, few, first_count) in
-      let y : f.second.sequences ≤ 512 = omega (arith, few, second_count) in
-      let a : f.first.sequences * f.second.sequences ≤ 512 * f.second.sequences = mul-le-mul_right f.second.sequences x in
-      omega (arith, a, y)
 
   costs_are : (payoff : Cell → ℚ) (most : ℚ) (numbers held : List ℚ) → numbers ≡ map (λ c. cost_at most c.weight (payoff c)) f.cells → HoldsNumbers f.first.sequences f.second.sequences (placed f.cells numbers) held → (r q : ℕ) → r < sequences (side_of f.first) → q < sequences (side_of f.second) → number_at held (sequences (side_of f.second)) r q ≡ (most *ℚ listed_at (map (λ c. (c.row, c.column, c.weight)) f.cells) r q) -ℚ listed_at (map (λ c. (c.row, c.column, payoff c)) f.cells) r q
   costs_are payoff most numbers held e holds r q hr hq =

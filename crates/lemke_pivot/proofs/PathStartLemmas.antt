@@ -1,5 +1,4 @@
 -- what is read off at the end, and the start of a problem's path
-use Rattle.sequence_data.specs.Sizes.{problem_rows, sizes_of}
 use Rattle.std.proofs.Common.{ℕ, suc, ◌<◌, ◌≡◌, ◌+◌, ◌*◌, List, length, get_or, map, sym, ap, ap₂, ◌∙◌, subst, subst₂, arith}
 use Rattle.std.proofs.lemmas.List.{length-map}
 use Rattle.rational.specs.Rational.{ℚ, ◌≤ℚ◌, ◌<ℚ◌}
@@ -19,7 +18,7 @@ use Rattle.lex_tableau.specs.Rows.{WholeTableau, tableau, IsTableau}
 use Rattle.lex_tableau.specs.Starts.{LinearSystem, system_of, IsStartOf}
 use Rattle.sequence_data.specs.declared.types.SetRow.{SetRow}
 use Rattle.sequence_data.specs.Data.{SideData, side_of}
-use Rattle.lemke_pivot.specs.Parts.{Problem, size_of, start_tableau, IsProblem, IsStartFor}
+use Rattle.lemke_pivot.specs.Parts.{Problem, size_for, size_of, start_tableau, IsProblem, IsStartFor}
 use Rattle.lemke_pivot.specs.Paths.{IsPathStart}
 use Rattle.lemke_pivot.specs.ProblemLaws.{CostSumsAreNotNegative}
 use Rattle.lemke_pivot.specs.Systems.{IsSystemFor}
@@ -102,7 +101,7 @@ starts_for first second s n (one, two, costs, P) h valid =
 sets_are : (side : SideData) → (side_of side).sets ≡ length side.sets
 sets_are side = length-map side.sets (λ s. s.before)
 
-pub rows_are : (first second : SideData) (x y a b : ℕ) → x ≡ sequences (side_of first) → y ≡ sequences (side_of second) → a ≡ length first.sets → b ≡ length second.sets → x + y + 2 * (a + b + 2) ≡ problem_rows (sizes_of (side_of first) (side_of second))
+pub rows_are : (first second : SideData) (x y a b : ℕ) → x ≡ sequences (side_of first) → y ≡ sequences (side_of second) → a ≡ length first.sets → b ≡ length second.sets → x + y + 2 * (a + b + 2) ≡ size_for first second
 rows_are first second x y a b ex ey ea eb = let f = sets_are first in let s = sets_are second in omega (arith, ex, ey, ea, eb, f, s)
 
 -- how many prices a player has

@@ -1,5 +1,4 @@
 -- The entries of a problem, one after another, make its system.
-use Rattle.sequence_data.specs.Sizes.{problem_rows, sizes_of}
 use Rattle.std.proofs.Common.{ℕ, suc, ◌<◌, ◌≤◌, ◌≡◌, ◌+◌, ◌*◌, ◌^◌, inl, inr, List, length, get_or, sym, ap, ap₂, ◌∙◌, subst, arith}
 use Rattle.std.proofs.lemmas.Bool.{cases_lt}
 use Rattle.std.proofs.lemmas.List.{get_or_past}
@@ -14,7 +13,7 @@ use Rattle.lex_tableau.specs.Entries.{AreEntries, AreNumbered}
 use Rattle.lex_tableau.specs.Starts.{linear_system, system_of, IsSystem}
 use Rattle.lex_tableau.proofs.EntryLemmas.{cell_at, right_at}
 use Rattle.sequence_data.specs.Data.{SideData, side_of}
-use Rattle.lemke_pivot.specs.Parts.{start_tableau}
+use Rattle.lemke_pivot.specs.Parts.{size_for, start_tableau}
 use Rattle.lemke_pivot.specs.Systems.{IsSystemFor}
 
 -- numbers one after another are small
@@ -24,7 +23,7 @@ numbered_small first count xs w h i = elim (cases_lt i count) [
   | inr l ↦ (let e = get_or_past xs i 0 (let c : length xs ≡ count = w.length_is in omega (arith, c, l)) in omega (arith, e, h))
 ]
 
-module _ (first second : SideData) (one two : ℕ → ℕ → ℚ) (n : ℕ) (basics nonbasics : List ℕ) (cells : List ℚ) (n_is : n ≡ problem_rows (sizes_of (side_of first) (side_of second))) (few : n ≤ most_rows) (basics_are : AreNumbered 1 n basics) (nonbasics_are : AreNumbered (n + 1) (n + 1) nonbasics) (cells_are : AreEntries (start_tableau (side_of first) (side_of second) one two) (n + 2) (n * (n + 2)) cells) where
+module _ (first second : SideData) (one two : ℕ → ℕ → ℚ) (n : ℕ) (basics nonbasics : List ℕ) (cells : List ℚ) (n_is : n ≡ size_for first second) (few : n ≤ most_rows) (basics_are : AreNumbered 1 n basics) (nonbasics_are : AreNumbered (n + 1) (n + 1) nonbasics) (cells_are : AreEntries (start_tableau (side_of first) (side_of second) one two) (n + 2) (n * (n + 2)) cells) where
   abbrev t : Tableau
   t = start_tableau (side_of first) (side_of second) one two
 
@@ -48,7 +47,7 @@ module _ (first second : SideData) (one two : ℕ → ℕ → ℚ) (n : ℕ) (ba
   valid : IsSystem (linear_system basics nonbasics cells n)
   valid =
       record {
-        distinct = (let s = costs_of (side_of first) (side_of second) one two in alike_distinct t (system_of (linear_system basics nonbasics cells n)) begins (is_start (problem_rows (sizes_of (side_of first) (side_of second))) (matrix s) (right_sides s)).proper);
+        distinct = (let s = costs_of (side_of first) (side_of second) one two in alike_distinct t (system_of (linear_system basics nonbasics cells n)) begins (is_start (size_for first second) (matrix s) (right_sides s)).proper);
         shape = entries.count ∙ ap₂ (λ a b. a * (b + 1)) (sym basics_are.length_is) (sym nonbasics_are.length_is);
         rated = (let b : length basics ≡ n = basics_are.length_is in omega (arith, b));
         basics_small = numbered_small 1 n basics basics_are (omega (arith, few));

@@ -3,7 +3,7 @@ use Rattle.sequence_data.specs.Sizes.{form_sizes, problem_rows}
 use Rattle.std.specs.Prelude.{ℕ, List, [], ◌∷◌, Ok}
 use Rattle.std.specs.List.{flat_map}
 use Rattle.answers.specs.Answers.{Answer, ◌>>=◌, ◌>>◌, only, IsSingle, refused_by}
-use Rattle.rational.specs.Rational.{ℚ, ◌-ℚ◌, ◌*ℚ◌}
+use Rattle.rational.specs.Rational.{ℚ, ◌*ℚ◌}
 use Rattle.frac128.specs.Steps.{step_of, Step}
 use Rattle.frac128.specs.declared.steps.Op.TheVariants.{Sub, Mul}
 use Rattle.lex_tableau.specs.Rows.{WholeTableau}
@@ -27,11 +27,11 @@ use Rattle.lemke_pivot.specs.declared.stop.LcpStop.TheVariants as stops
 abbrev pub cost_steps : ℚ → ℚ → ℚ → List Step
 cost_steps most weight payoff = step_of Mul most weight ∷ step_of Sub (most *ℚ weight) payoff ∷ []
 
--- the cost of player 0 at a cell
+-- the cost of the first player at a cell
 abbrev pub cost_one : ℚ → Cell → ℚ
 cost_one most c = cost_at most c.weight c.one
 
--- the cost of player 1 at a cell
+-- the cost of the second player at a cell
 abbrev pub cost_two : ℚ → Cell → ℚ
 cost_two most c = cost_at most c.weight c.two
 
@@ -40,7 +40,7 @@ pub record PlayersCell : Type 0 where
   pub player : ℕ
   pub cell : Cell
 
--- cell by cell, player 0's cost and then player 1's
+-- cell by cell, the first player's cost and then the second player's
 abbrev pub both_costs : List Cell → List PlayersCell
 both_costs cells =
     flat_map (λ (c : Cell). record { player = 0; cell = c } ∷ record { player = 1; cell = c } ∷ [])

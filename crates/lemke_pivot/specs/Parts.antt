@@ -22,9 +22,13 @@ pub record Problem : Type 0 where
   pub second : SideData
   pub tableau : WholeTableau
 
+-- how many rows the problem of two sides has
+abbrev pub size_for : SideData → SideData → ℕ
+size_for first second = problem_rows (sizes_of (side_of first) (side_of second))
+
 -- how many rows a problem has
 abbrev pub size_of : Problem → ℕ
-size_of p = problem_rows (sizes_of (side_of p.first) (side_of p.second))
+size_of p = size_for p.first p.second
 
 -- the start of the problem of two sides with these costs
 abbrev pub start_tableau : Side → Side → (ℕ → ℕ → ℚ) → (ℕ → ℕ → ℚ) → Tableau
@@ -59,9 +63,9 @@ pub record IsStartFor (first second : SideData) (n : WholeTableau) : Type 0 wher
   pub two : ℕ → ℕ → ℚ
   pub costs : CostSumsAreNotNegative (costs_of (side_of first) (side_of second) one two)
   pub begins : Alike (start_tableau (side_of first) (side_of second) one two) (tableau n)
-  pub starts : (i : ℕ) → i < problem_rows (sizes_of (side_of first) (side_of second))
+  pub starts : (i : ℕ) → i < size_for first second
       → slice_index_or n.starts i 0 ≡ w_of i
-  pub rated : n.rated ≡ problem_rows (sizes_of (side_of first) (side_of second))
+  pub rated : n.rated ≡ size_for first second
   pub valid : IsTableau n
 
 -- a problem: both players' sides, and the start; its rows are within the limit

@@ -29,7 +29,8 @@ ExactPathTo m n r (s ∷ ss) t c = (d : ℕ) × (l : ℕ) × ExactPathTo m n r s
 -- a path of k pivots, by the first of which z0 enters at row r, leads from m to t
 abbrev pub LeadsTo : WholeTableau → ℕ → ℕ → ℕ → WholeTableau → Type 0
 LeadsTo m n r k t =
-    (earlier : List WholeTableau) × (c : ℕ) × ExactPathTo m n r earlier t c × (k ≡ suc (length earlier))
+    (earlier : List WholeTableau) × (c : ℕ) × ExactPathTo m n r earlier t c
+    × (k ≡ suc (length earlier))
 
 -- the path ends at t, where the value of z0 is 0
 abbrev pub EndsSolved : WholeTableau → ℕ → ℕ → WholeTableau → Type 0

@@ -1,4 +1,4 @@
--- The laws of the path, as statements. Each is proved by a function of src/lib.rt.
+-- The laws of the path, as statements. Each is proved by a function of src/laws.rt.
 use Rattle.std.specs.Prelude.{ℕ, suc, ◌<◌, ◌≤◌, ◌≡◌, ◌≢◌, ◌^◌, ◌+◌, List, ◌∷◌, length, map, AllPairs}
 use Rattle.rational.specs.Rational.{ℚ, ◌+ℚ◌, zero_ℚ, ◌≤ℚ◌, ◌<ℚ◌}
 use Rattle.linear_systems.specs.Tableau.{Tableau}
@@ -42,7 +42,8 @@ PathsEndSolved =
 abbrev pub PathsEndInRays : Type 0
 PathsEndInRays =
     (n : ℕ) (M : ℕ → ℕ → ℚ) (b : ℕ → ℚ) (r : ℕ) (ss : List Tableau) (t : Tableau) (c column : ℕ)
-    → IsFirstRow n b r → PathTo n M b r ss t c → basic_solution t (z0_of n) ≢ zero_ℚ → column < t.width
+    → IsFirstRow n b r → PathTo n M b r ss t c → basic_solution t (z0_of n) ≢ zero_ℚ
+    → column < t.width
     → t.nonbasic column ≡ c → ((i : ℕ) → i < n → t.cell i column ≤ℚ zero_ℚ) → IsRayAt n M b t column
 
 -- z0 has a row to enter at, where a right side is negative

@@ -61,9 +61,9 @@ pub record Replaces (n : ℕ) (t : Tableau) (c l : ℕ) (t' : Tableau) : Type 0 
   pub chosen : IsLexicographicRow n n w_of t column row
   pub to : Alike (pivot t row column) t'
 
--- The path has come to t, and c is next. The list has the tableaux before t, the last one first.
--- The path begins with z0, which enters at row r; as long as the value of z0 is not 0, the variable
--- that is next enters, and the complement of the one that leaves is next.
+-- The path has come to t, and c is next. The list has the tableaux after the first pivot and before
+-- t, the last one first. z0 enters at row r; as long as the value of z0 is not 0, the variable that
+-- is next enters, and the complement of the one that leaves is next.
 abbrev pub PathTo : ℕ → (ℕ → ℕ → ℚ) → (ℕ → ℚ) → ℕ → List Tableau → Tableau → ℕ → Type 0
 PathTo n M b r [] t c = Alike (pivot (start n M b) r n) t × (c ≡ z_of n r)
 PathTo n M b r (s ∷ ss) t c = (d : ℕ) × (l : ℕ) × PathTo n M b r ss s d

@@ -1,5 +1,4 @@
 -- The system of a problem, entry by entry.
-use Rattle.sequence_data.specs.Sizes.{problem_rows, sizes_of}
 use Rattle.std.specs.Prelude.{ℕ, ◌≡◌, length}
 use Rattle.rational.specs.Rational.{ℚ}
 use Rattle.linear_systems.specs.Rows.{Alike}
@@ -10,14 +9,14 @@ use Rattle.lex_tableau.specs.Starts.{LinearSystem, IsSystem, system_of}
 use Rattle.sequence_data.specs.Data.{SideData, IsSideData, side_of}
 use Rattle.sequence_data.specs.Matrices.{matrix_size, number_at}
 use Rattle.lemke_pivot.specs.declared.matrix.SideCosts.{SideCosts}
-use Rattle.lemke_pivot.specs.Parts.{start_tableau}
+use Rattle.lemke_pivot.specs.Parts.{size_for, start_tableau}
 
 -- the system of the problem of these sides with these costs
 pub record IsSystemFor (first second : SideData) (one two : ℕ → ℕ → ℚ)
     (s : LinearSystem) : Type 0 where
   pub valid : IsSystem s
   pub begins : Alike (start_tableau (side_of first) (side_of second) one two) (system_of s)
-  pub rated : s.rated ≡ problem_rows (sizes_of (side_of first) (side_of second))
+  pub rated : s.rated ≡ size_for first second
 
 -- ---- as they are listed
 -- how many sequences the first player has
@@ -30,7 +29,7 @@ columns_at c = sequences (side_of c.second.now)
 
 -- how many rows the problem has
 abbrev pub size_at : SideCosts → ℕ
-size_at c = problem_rows (sizes_of (side_of c.first.now) (side_of c.second.now))
+size_at c = size_for c.first.now c.second.now
 
 -- both sides are in order, and each player has a cost for each pair of sequences
 pub record AreCosts (c : SideCosts) : Type 0 where

@@ -1,5 +1,4 @@
 // The problem and its path.
-ghost use Rattle.sequence_data.specs.Sizes.{problem_rows, sizes_of};
 ghost use Rattle.std.specs.Prelude.{ℕ, suc, ◌≡◌, ◌+◌, ◌^◌, ◌<◌, ◌≤◌, length, IfErr, IfOk};
 ghost use Rattle.answers.specs.Answers.{Gives, map_ok};
 ghost use Rattle.game_theory.specs.Lines.{listed};
@@ -15,7 +14,7 @@ ghost use Rattle.lemke_pivot.specs.Ends.{solved_in};
 ghost use Rattle.lemke_pivot.specs.ProblemLaws.{CostSumsAreNotNegative};
 ghost use Rattle.lemke_pivot.specs.Problems.{costs_of};
 ghost use Rattle.lemke_pivot.specs.Systems.{IsSystemFor};
-ghost use Rattle.lemke_pivot.specs.Parts.{plan_one, plan_two, plans_at, size_of};
+ghost use Rattle.lemke_pivot.specs.Parts.{plan_one, plan_two, plans_at, size_for, size_of};
 ghost use Rattle.lemke_pivot.specs.ProblemPaths.{IsLeastRow};
 ghost use Rattle.lemke_pivot.specs.Paths.{LeadsTo};
 
@@ -40,9 +39,7 @@ pub struct Lcp {
 
 impl Model for Lcp {
     ghost use Rattle.std.specs.Prelude.{◌≡◌};
-    ghost use Rattle.sequence_data.specs.Data.{side_of};
-    ghost use Rattle.sequence_data.specs.Sizes.{problem_rows, sizes_of};
-    ghost use Rattle.lemke_pivot.specs.Parts.{IsProblem, Problem};
+    ghost use Rattle.lemke_pivot.specs.Parts.{IsProblem, Problem, size_for};
 
     ghost Value = { Problem };
 
@@ -50,7 +47,7 @@ impl Model for Lcp {
 
     ghost invariant = { λ l.
         IsProblem (record { first = l.first; second = l.second; tableau = l.work })
-        × (l.size ≡ problem_rows (sizes_of (side_of l.first) (side_of l.second))) };
+        × (l.size ≡ size_for l.first l.second) };
 }
 
 /// A solution: both players' sets, and the end of the path, where the plans stand.
@@ -65,9 +62,8 @@ pub struct Solution {
 impl Model for Solution {
     ghost use Rattle.std.specs.Prelude.{◌≡◌, ◌≤◌};
     ghost use Rattle.game_core.specs.Limits.{most_rows};
-    ghost use Rattle.sequence_data.specs.Data.{IsSideData, side_of};
-    ghost use Rattle.sequence_data.specs.Sizes.{problem_rows, sizes_of};
-    ghost use Rattle.lemke_pivot.specs.Parts.{Problem};
+    ghost use Rattle.sequence_data.specs.Data.{IsSideData};
+    ghost use Rattle.lemke_pivot.specs.Parts.{Problem, size_for};
 
     ghost Value = { Problem };
 
@@ -75,7 +71,7 @@ impl Model for Solution {
 
     ghost invariant = { λ s.
         IsSideData s.first × IsSideData s.second × (s.size ≤ most_rows)
-        × (s.size ≡ problem_rows (sizes_of (side_of s.first) (side_of s.second))) };
+        × (s.size ≡ size_for s.first s.second) };
 }
 
 // The last of the rows with the least right side.
@@ -89,11 +85,10 @@ fn least_row(table: &Tableau, size: usize) -> usize
     let mut least = table.right(0);
     for row in 1..size {
         let right = table.right(row);
-        if least.is_less(right) {
-            continue;
+        if !least.is_less(right) {
+            best = row;
+            least = right;
         }
-        best = row;
-        least = right;
     }
     best
 }
@@ -102,7 +97,7 @@ fn least_row(table: &Tableau, size: usize) -> usize
 pub(crate) fn row_count(first: &Side, second: &Side) -> u64
     requires first_side { IsSideData first.now }
     requires second_side { IsSideData second.now }
-    ensures { result ≡ problem_rows (sizes_of (side_of first.now) (side_of second.now)) }
+    ensures { result ≡ size_for first.now second.now }
 {
     rows(&side_counts(first, second))
 }
@@ -121,7 +116,7 @@ impl Lcp {
     ) -> Result<Lcp, StartStop>
         requires first_side { IsSideData first }
         requires second_side { IsSideData second }
-        requires few { problem_rows (sizes_of (side_of first) (side_of second)) ≤ most_rows }
+        requires few { size_for first second ≤ most_rows }
         requires problem { (one two : ℕ → ℕ → ℚ)
             × CostSumsAreNotNegative (costs_of (side_of first) (side_of second) one two)
             × IsSystemFor first second one two system.now }

@@ -4,7 +4,7 @@ ghost use Rattle.std.specs.Prelude.{◌≡◌};
 ghost use Rattle.sequence_forms.specs.Matrices.{right_side};
 
 use frac128::Frac;
-use sequence_data::{Side, set_entry};
+use sequence_data::Side;
 
 /// Both players' sides, and the costs of both, row by row: one for each sequence of the first
 /// player with each of the second. Rows and columns of the problem count from 0.
@@ -52,11 +52,11 @@ impl<'a> SideCosts<'a> {
         }
         let column = column - columns;
         if column < prices {
-            return set_entry(self.first, column, row).neg();
+            return self.first.set_entry(column, row).neg();
         }
         let column = column - prices;
         if column < prices {
-            return set_entry(self.first, column, row);
+            return self.first.set_entry(column, row);
         }
         Frac::zero()
     }
@@ -80,9 +80,9 @@ impl<'a> SideCosts<'a> {
         }
         let column = column - before;
         if column < prices {
-            return set_entry(self.second, column, row).neg();
+            return self.second.set_entry(column, row).neg();
         }
-        set_entry(self.second, column - prices, row)
+        self.second.set_entry(column - prices, row)
     }
 
     // The entry in the row of a price of the first player.
@@ -92,7 +92,7 @@ impl<'a> SideCosts<'a> {
         ensures { result ≡ rows_p (costs_at self.now) row column }
     {
         if column < self.first.sequences() as usize {
-            return set_entry(self.first, row, column);
+            return self.first.set_entry(row, column);
         }
         Frac::zero()
     }
@@ -108,7 +108,7 @@ impl<'a> SideCosts<'a> {
         }
         let column = column - self.first.sequences() as usize;
         if column < self.second.sequences() as usize {
-            return set_entry(self.second, row, column);
+            return self.second.set_entry(row, column);
         }
         Frac::zero()
     }

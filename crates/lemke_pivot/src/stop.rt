@@ -14,9 +14,9 @@ pub enum LcpStop {
     Range {
         /// The player, 0 or 1, whose cost it is.
         player: u32,
-        /// The sequence of player one; 0 is the empty one.
+        /// The sequence of the first player; 0 is the empty one.
         row: u32,
-        /// The sequence of player two; 0 is the empty one.
+        /// The sequence of the second player; 0 is the empty one.
         column: u32,
         /// The step.
         unfit: Unfit,

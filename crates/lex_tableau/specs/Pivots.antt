@@ -8,7 +8,7 @@ use Rattle.lex_tableau.specs.Rows.{WholeTableau, size_of, row_of, IsTableau, IsP
 -- the steps of the pivot of a tableau on a row and a column
 abbrev pub steps_of_pivot : WholeTableau → ℕ → ℕ → List Step
 steps_of_pivot n row col =
-    pivot_steps (length n.nonbasics + 2) (row_of n) row (col + 1) (length n.basics)
+    pivot_steps (size_of n.nonbasics) (row_of n) row (col + 1) (length n.basics)
 
 -- new is the tableau that the pivot makes, and all steps of the pivot fit
 pub record IsFittingPivot (n : WholeTableau) (row col : ℕ) (new : WholeTableau) : Type 0 where
@@ -18,12 +18,12 @@ pub record IsFittingPivot (n : WholeTableau) (row col : ℕ) (new : WholeTableau
 
 -- these numbers have as its row what the pivot makes of it
 abbrev pub HasPivotRow : WholeTableau → ℕ → ℕ → List ℤ → Type 0
-HasPivotRow n row col new = IsPivotAt n.numbers (size_of n) row (col + 1) new
+HasPivotRow n row col new = IsPivotAt n.numbers (size_of n.nonbasics) row (col + 1) new
 
 -- and as the other rows what it makes of them
 abbrev pub HasOtherRows : WholeTableau → ℕ → ℕ → List ℤ → Type 0
 HasOtherRows n row col new =
-    AreOthersPivoted n.numbers (size_of n) row (col + 1) (length n.basics) new
+    AreOthersPivoted n.numbers (size_of n.nonbasics) row (col + 1) (length n.basics) new
 
 -- the number of a pivot, counted from 1, as it is told: 2 ^ 64 - 1 stands for every later one too
 abbrev pub pivot_number : ℕ → ℕ

@@ -26,13 +26,13 @@ whole_tableau starts basics nonbasics rated numbers =
       numbers = numbers;
     }
 
--- how many numbers a row has
-abbrev pub size_of : WholeTableau → ℕ
-size_of n = length n.nonbasics + 2
+-- how many numbers a row has, with these nonbasic variables
+abbrev pub size_of : List ℕ → ℕ
+size_of nonbasics = length nonbasics + 2
 
 -- the numbers of a row
 abbrev pub row_of : WholeTableau → ℕ → ℕ → ℤ
-row_of n i = from_place n.numbers (i * (length n.nonbasics + 2))
+row_of n i = from_place n.numbers (i * size_of n.nonbasics)
 
 -- the tableau of fractions with these variables and numbers
 abbrev pub tableau_of : List ℕ → List ℕ → List ℤ → Tableau
@@ -42,16 +42,16 @@ tableau_of basics nonbasics numbers =
       width = length nonbasics;
       basic = λ i. get_or basics i 0;
       nonbasic = λ j. get_or nonbasics j 0;
-      cell = λ i j. fraction (from_place numbers (i * (length nonbasics + 2))) (j + 1);
-      right = λ i. fraction (from_place numbers (i * (length nonbasics + 2)))
-          (length nonbasics + 1);
+      cell = λ i j. fraction (from_place numbers (i * size_of nonbasics)) (j + 1);
+      right = λ i. fraction (from_place numbers (i * size_of nonbasics)) (length nonbasics + 1);
     }
 
 -- the tableau of fractions
 abbrev pub tableau : WholeTableau → Tableau
 tableau n = tableau_of n.basics n.nonbasics n.numbers
 
--- t is row-equivalent to a start with these basic variables, as pivots on its first `rated` rows keep it
+-- t is row-equivalent to a start with these basic variables, as pivots on its first `rated` rows
+-- keep it
 pub record IsRowEquivalentToStart (rated : ℕ) (starts : List ℕ) (t : Tableau) : Type 0 where
   pub bound : ℕ
   pub start : Tableau
@@ -63,8 +63,8 @@ pub record IsRowEquivalentToStart (rated : ℕ) (starts : List ℕ) (t : Tableau
 pub record IsTableau (n : WholeTableau) : Type 0 where
   pub starts : length n.starts ≡ length n.basics
   pub rated : n.rated ≤ length n.basics
-  pub shape : length n.numbers ≡ length n.basics * (length n.nonbasics + 2)
-  pub rows : (i : ℕ) → i < length n.basics → IsRow (length n.nonbasics + 2) (row_of n i)
+  pub shape : length n.numbers ≡ length n.basics * size_of n.nonbasics
+  pub rows : (i : ℕ) → i < length n.basics → IsRow (size_of n.nonbasics) (row_of n i)
   pub reached : IsRowEquivalentToStart n.rated n.starts (tableau n)
 
 -- a tableau whose numbers are others, and whose basic variable of a row and nonbasic variable of a

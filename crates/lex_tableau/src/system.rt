@@ -12,7 +12,8 @@ use std::marker::Model;
 /// the nonbasic variables is its right side. The first `rated` rows take part in ratio tests.
 ///
 /// No variable stands twice, each row has a cell for each column and a right side, and `rated` is
-/// at most the number of rows. Rows and columns are counted from 0.
+/// at most the number of rows. The variables and the number of rows are below 2^32. Rows and
+/// columns are counted from 0.
 #[derive(Debug, Drop)]
 pub struct System {
     /// The basic variables, row by row.

@@ -92,7 +92,8 @@ fn copied(room: Vec<u32>, xs: &[u32]) -> Result<Vec<u32>, Memory>
     Ok(copy)
 }
 
-/// Why a pivot gives no tableau: its first step that does not fit, or no memory.
+/// Why a pivot gives no tableau: its first step that does not fit, or `Memory` where memory ran
+/// out.
 #[derive(Debug, Drop)]
 pub enum PivotStop {
     /// The first step that does not fit.
@@ -123,8 +124,8 @@ impl From<Memory> for PivotStop {
     }
 }
 
-/// Why there is no start: a row, counted from 0, with its first step that does not fit; or no
-/// memory.
+/// Why there is no start: a row, counted from 0, with its first step that does not fit; or `Memory`
+/// where memory ran out.
 #[derive(Debug, Drop)]
 pub enum StartStop {
     /// A step of a row does not fit.
@@ -203,7 +204,7 @@ impl Tableau {
     ///
     /// # Errors
     ///
-    /// The first step that does not fit, with its row; or no memory.
+    /// The first step that does not fit, with its row; `Memory` where memory ran out.
     pub fn start(alloc: Global, system: &System) -> Result<Tableau, StartStop>
         ensures { Gives start_stops.Memory (start_in system.now) result }
     {
@@ -394,7 +395,7 @@ impl Tableau {
     /// # Errors
     ///
     /// The first step that does not fit, in the order of the rows and in each of the coefficient of
-    /// the basic variable, the columns and the right side; or no memory.
+    /// the basic variable, the columns and the right side; `Memory` where memory ran out.
     pub fn pivoted<L: Ledger>(
         &self,
         alloc: Global,

@@ -8,8 +8,8 @@ use Rattle.linear_systems.specs.Points.{IsExtremePoint, AreEqualAt}
 use Rattle.linear_systems.specs.LexFeasible.{IsFeasibleStart, IsLexFeasible, IsClosed}
 use Rattle.linear_systems.specs.Vertices.{MarkedPoint, AreVertices}
 
--- The start is lexicographically feasible, and so is what a pivot on a lexicographic row makes of such
--- a tableau.
+-- The start is lexicographically feasible, and so is what a pivot on a lexicographic row makes of
+-- such a tableau.
 pub record LexicographicPivotsKeepFeasibility : Type 0 where
   pub start : (N : ℕ) (s : Tableau) → IsFeasibleStart N s → IsLexFeasible N s s
   pub alike : (N : ℕ) (s t u : Tableau) → IsFeasibleStart N s → Alike t u → IsLexFeasible N s t
@@ -30,8 +30,8 @@ pub record HasPoint (s : Tableau) (K : ℕ) (ts : ℕ → Tableau) (p : ℕ → 
   pub within : place < K
   pub same : AreEqualAt s p (basic_solution (ts place))
 
--- Among lexicographically feasible tableaux that are closed under lexicographic pivots, each extreme
--- point is a basic solution, degenerate ones too.
+-- Among lexicographically feasible tableaux that are closed under lexicographic pivots, each
+-- extreme point is a basic solution, degenerate ones too.
 abbrev pub ClosedSetsCover : Type 0
 ClosedSetsCover =
     (N : ℕ) (s : Tableau) (K : ℕ) (ts : ℕ → Tableau) (p : ℕ → ℚ) → IsFeasibleStart N s → 0 < K

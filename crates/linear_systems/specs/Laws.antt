@@ -21,23 +21,23 @@ KeysStayPositive =
     → ((i : ℕ) → i < m → IsLexPositive (suc m) (key b t i)) → (i : ℕ) → i < m
     → IsLexPositive (suc m) (key b u i)
 
--- What a pivot on a rated row makes of a tableau that is row-equivalent to a start is so too, whatever
--- the sign of the entry.
+-- What a pivot on a rated row makes of a tableau that is row-equivalent to a start is so too,
+-- whatever the sign of the entry.
 pub record PivotsKeepRowEquivalence : Type 0 where
   pub start : (N m : ℕ) (s : Tableau) → IsStart N m s → IsRowEquivalent N m s s
   pub pivot : (N m : ℕ) (s t u : Tableau) (r c : ℕ) → IsStart N m s → IsRowEquivalent N m s t
       → r < m → c < t.width → t.cell r c ≢ zero_ℚ → Alike (pivot t r c) u → IsRowEquivalent N m s u
 
--- A column of a tableau that is row-equivalent to a start has one lexicographic row, or no rated row
--- has a positive entry there.
+-- A column of a tableau that is row-equivalent to a start has one lexicographic row, or no rated
+-- row has a positive entry there.
 pub record LexicographicRowIsOne : Type 0 where
   pub exists : (N m : ℕ) (s t : Tableau) (c : ℕ) → IsStart N m s → IsRowEquivalent N m s t
       → ((i : ℕ) → i < m → t.cell i c ≤ℚ zero_ℚ) ⊎ ((r : ℕ) × IsLexicographicRow m m s.basic t c r)
   pub once : (m : ℕ) (b : ℕ → ℕ) (t : Tableau) (c r k : ℕ) → IsLexicographicRow m m b t c r
       → IsLexicographicRow m m b t c k → r ≡ k
 
--- Two tableaux that are row-equivalent to a start and have the same rated basic variables are alike,
--- up to the order of rows and columns.
+-- Two tableaux that are row-equivalent to a start and have the same rated basic variables are
+-- alike, up to the order of rows and columns.
 pub record BasisDetermines : Type 0 where
   pub cell : (N m : ℕ) (s t u : Tableau) (i k j l : ℕ) → IsStart N m s → IsRowEquivalent N m s t
       → IsRowEquivalent N m s u → HasSameBasis m t u → i < m → k < m → u.basic i ≡ t.basic k
@@ -46,10 +46,10 @@ pub record BasisDetermines : Type 0 where
       → IsRowEquivalent N m s u → HasSameBasis m t u → i < m → k < m → u.basic i ≡ t.basic k
       → u.right i ≡ t.right k
 
--- Where a tableau is row-equivalent to a start, a row of it that is not rated is the start's row plus
--- the start's rated rows, each times the row's coefficient of that row's basic variable.
-abbrev pub LastRowIsStarts : Type 0
-LastRowIsStarts =
+-- Where a tableau is row-equivalent to a start, a row of it that is not rated is the start's row
+-- plus the start's rated rows, each times the row's coefficient of that row's basic variable.
+abbrev pub UnratedRowsAreTheStarts : Type 0
+UnratedRowsAreTheStarts =
     (N m : ℕ) (s t : Tableau) (l : ℕ) (x : ℕ → ℚ) (y : ℚ) → IsStart N m s → m ≤ l → l < s.rows
     → IsRowEquivalent N m s t
     → row t x y l ≡ row s x y l +ℚ sum_to m (λ q. coefficient t l (s.basic q) *ℚ row s x y q)

@@ -1,5 +1,5 @@
--- Lexicographically feasible tableaux, which pivots on lexicographic rows lead to from a start whose
--- right sides are not negative, all rows rated
+-- Lexicographically feasible tableaux, which pivots on lexicographic rows lead to from a start
+-- whose right sides are not negative, all rows rated
 use Rattle.std.specs.Prelude.{ℕ, suc, ◌<◌, ◌≡◌, ◌≢◌}
 use Rattle.rational.specs.Rational.{zero_ℚ, ◌≤ℚ◌}
 use Rattle.linear_systems.specs.Tableau.{Tableau}

@@ -1,5 +1,5 @@
--- The feasible points of a system: its solutions without negative entries, and the extreme ones among
--- them (Avis et al. 2010)
+-- The feasible points of a system: its solutions without negative entries, and the extreme ones
+-- among them (Avis et al. 2010)
 use Rattle.std.specs.Prelude.{ℕ, ◌<◌, ◌≡◌, ◌≢◌}
 use Rattle.rational.specs.Rational.{ℚ, ◌+ℚ◌, zero_ℚ, ◌≤ℚ◌}
 use Rattle.linear_systems.specs.Tableau.{Tableau, Solves}

@@ -32,6 +32,7 @@ pivot t r c =
       nonbasic = λ j. cond (eqb j c) (t.basic r) (t.nonbasic j);
       cell = λ i.
           cond (eqb i r) (change (λ j. t.cell r j *ℚ q) c q)
-          (change (λ j. t.cell i j -ℚ (t.cell i c *ℚ (t.cell r j *ℚ q))) c (neg_ℚ (t.cell i c *ℚ q)));
+          (change (λ j. t.cell i j -ℚ (t.cell i c *ℚ (t.cell r j *ℚ q))) c
+          (neg_ℚ (t.cell i c *ℚ q)));
       right = λ i. cond (eqb i r) (t.right r *ℚ q) (t.right i -ℚ (t.cell i c *ℚ (t.right r *ℚ q)));
     }

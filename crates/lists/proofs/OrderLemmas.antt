@@ -1,6 +1,5 @@
 -- The order of lists: an ascending list is determined by its members, and has each of them once.
 use Rattle.std.proofs.Common.{ℕ, zero, suc, ◌<◌, ◌≡◌, inl, inr, List, [], ◌∷◌, length, get_or, All, Contains, refl, sym, ◌∙◌, subst, arith}
-use Rattle.std.proofs.lemmas.List.Elements.{All-contains}
 use Rattle.std.specs.List.{AllPairs}
 use Rattle.std.proofs.lemmas.List.Kept.{AllPairs-cons}
 use Rattle.lists.specs.Laws.{ListsAreOrdered}
@@ -55,10 +54,6 @@ AreAscending-place (x ∷ xs) (suc k) (suc n) d o l m e =
     omega arith
 
 -- ---- the members determine the list
--- the first list comes before each member of the rest
-pub AreAscending-member : (x : List ℕ) (xs : List (List ℕ)) (z : List ℕ) → AreAscending (x ∷ xs) → Contains xs z → ComesBefore x z
-AreAscending-member x xs z o c = All-contains (ComesBefore x) xs z (AreAscending-first x xs o) c
-
 -- each member of the first list is one of the second
 abbrev pub AreWithin : List (List ℕ) → List (List ℕ) → Type 0
 AreWithin xs ys = (z : List ℕ) → Contains xs z → Contains ys z

@@ -6,4 +6,6 @@ use Rattle.lists.specs.Orders.{ComesBefore, AreAscending}
 pub record ListsAreOrdered : Type 0 where
   pub irreflexive : (x : List ℕ) → ComesBefore x x → ⊥
   pub transitive : (x y z : List ℕ) → ComesBefore x y → ComesBefore y z → ComesBefore x z
-  pub determined : (xs ys : List (List ℕ)) → AreAscending xs → AreAscending ys → ((z : List ℕ) → Contains xs z → Contains ys z) → ((z : List ℕ) → Contains ys z → Contains xs z) → xs ≡ ys
+  pub determined : (xs ys : List (List ℕ)) → AreAscending xs → AreAscending ys
+      → ((z : List ℕ) → Contains xs z → Contains ys z)
+      → ((z : List ℕ) → Contains ys z → Contains xs z) → xs ≡ ys

@@ -1,6 +1,6 @@
 -- The check of lines has an answer.
-use Rattle.std.proofs.Common.{ℕ, ◌+◌, ◌≡◌, List, [], ◌∷◌, ◌++◌, Ok, refl, subst, sym}
-use Rattle.answers.specs.Answers.{Answer, ◌>>=◌, only, refused, refused_by, such_that}
+use Rattle.std.proofs.Common.{ℕ, ◌+◌, List, [], ◌∷◌, ◌++◌, Ok, refl, subst, sym}
+use Rattle.answers.specs.Answers.{Answer, ◌>>=◌, only, refused_by, such_that}
 use Rattle.answers.specs.Answered.{IsAnswered}
 use Rattle.answers.proofs.AnsweredLemmas.{answered, bind-answered, only-answered, refused_by-answered, such_that-answered}
 use Rattle.rational.specs.Rational.{ℚ}

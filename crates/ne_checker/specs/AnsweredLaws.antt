@@ -9,7 +9,8 @@ use Rattle.ne_checker.specs.LineChecks.{table_check, tree_check}
 
 -- a table and a text have an answer
 abbrev pub TableChecksAreAnswered : Type 0
-TableChecksAreAnswered = (table : GameTable) (text : List ℕ) → IsTable table → IsAnswered (table_check table text)
+TableChecksAreAnswered =
+    (table : GameTable) (text : List ℕ) → IsTable table → IsAnswered (table_check table text)
 
 -- so have a tree in which all players recall and a text
 abbrev pub TreeChecksAreAnswered : Type 0

@@ -21,14 +21,8 @@ fn table_line(alloc: Global, table: &Table, number: u64, line: &[u8]) -> Result<
     ensures { Gives stops.Memory (table_line table.now number line.now)
         (map_ok result (λ text. text.items)) }
 {
-    let entries = match read_line(alloc, line) {
-        Ok(entries) => entries,
-        Err(stop) => return Err(unread(number, stop)),
-    };
-    let mixed = match Mixed::try_new(table, entries) {
-        Ok(mixed) => mixed,
-        Err(fault) => return Err(faulty(number, fault)),
-    };
+    let entries = read_line(alloc, line).map_err(|stop| unread(number, stop))?;
+    let mixed = Mixed::try_new(table, entries).map_err(|fault| faulty(number, fault))?;
     match check_table(table, &mixed) {
         TableVerdict::Equilibrium => Ok(equilibrium(alloc)?),
         TableVerdict::Better {

@@ -1,13 +1,11 @@
 // The texts of verdicts.
-ghost use Rattle.std.specs.Prelude.{◌≡◌, ◌<◌, ◌^◌, ◌++◌, [], ◌∷◌, length, IfOk, OnOk};
+ghost use Rattle.std.specs.Prelude.{◌≡◌, ◌++◌, [], ◌∷◌, IfOk, OnOk};
 ghost use Rattle.std.specs.List.{flat_map};
-ghost use Rattle.verdicts.specs.TreeScratches.{reply_of};
 ghost use Rattle.ne_checker.specs.Texts.{better_start, better_text, choice_text, equilibrium_text};
 
 use answers::Memory;
 use frac128::Frac;
 use std::alloc::Global;
-use verdicts::Scratch;
 
 /// The text of an equilibrium.
 pub(crate) fn equilibrium(alloc: Global) -> Result<Vec<u8>, Memory>
@@ -35,16 +33,13 @@ fn push_choice(alloc: Global, text: &mut Vec<u8>, choice: u32) -> Result<(), Mem
     Ok(())
 }
 
-// Adds the actions of the reply that a check found.
-fn push_reply(alloc: Global, text: &mut Vec<u8>, scratch: &Scratch) -> Result<(), Memory>
-    requires { length (reply_of scratch.now) < 2 ^ 32 }
+// Adds the actions of a reply.
+fn push_reply(alloc: Global, text: &mut Vec<u8>, reply: &[u32]) -> Result<(), Memory>
     ensures { OnOk result (text.new.items
-        ≡ text.old.items ++ flat_map choice_text (reply_of scratch.now)) }
+        ≡ text.old.items ++ flat_map choice_text reply.now) }
 {
-    let mut place = 0;
-    while let Some(action) = scratch.reply(place) {
-        push_choice(alloc, text, action)?;
-        place += 1;
+    for action in reply {
+        push_choice(alloc, text, *action)?;
     }
     Ok(())
 }
@@ -65,20 +60,18 @@ pub(crate) fn better_strategy(
     Ok(text)
 }
 
-/// The text of a better reply of a player, which a check found.
+/// The text of a better reply of a player.
 pub(crate) fn better_reply(
     alloc: Global,
     player: u32,
     payoff: Frac,
     best: Frac,
-    scratch: &Scratch,
+    reply: &[u32],
 ) -> Result<Vec<u8>, Memory>
-    requires { length (reply_of scratch.now) < 2 ^ 32 }
-    ensures { IfOk result (λ text. text.items
-        ≡ better_text player payoff best (reply_of scratch.now)) }
+    ensures { IfOk result (λ text. text.items ≡ better_text player payoff best reply.now) }
 {
     let mut text = better_start(alloc, player, payoff, best)?;
-    push_reply(alloc, &mut text, scratch)?;
+    push_reply(alloc, &mut text, reply)?;
     text.push(b'\n')?;
     Ok(text)
 }

@@ -38,21 +38,18 @@ fn tree_line(
 {
     tree.stands_for_game_tree();
     tested_entries_are_behaviours();
-    let entries = match read_line(alloc, line) {
-        Ok(entries) => entries,
-        Err(stop) => return Err(unread(number, stop)),
-    };
-    let behaviour = match Behaviour::try_new(tree, entries) {
-        Ok(behaviour) => behaviour,
-        Err(fault) => return Err(faulty(number, fault)),
-    };
+    let entries = read_line(alloc, line).map_err(|stop| unread(number, stop))?;
+    let behaviour = Behaviour::try_new(tree, entries).map_err(|fault| faulty(number, fault))?;
     match check_tree(tree, recall, &behaviour, scratch) {
         TreeVerdict::Equilibrium => Ok(equilibrium(alloc)?),
         TreeVerdict::Better {
             player,
             payoff,
             best,
-        } => Ok(better_reply(alloc, player, payoff, best, scratch)?),
+        } => {
+            let reply = scratch.reply();
+            Ok(better_reply(alloc, player, payoff, best, reply)?)
+        }
         TreeVerdict::Range { unfit } => Err(CheckStop::Range {
             line: number,
             unfit,

@@ -1,9 +1,9 @@
 -- Digits of a numeral.
-use Rattle.std.proofs.Common.{◌++◌, ◌≢◌, suc, ap₂, arith, rules, ℕ, ◌≡◌, List, [], ◌∷◌, All, refl}
+use Rattle.std.proofs.Common.{◌++◌, ◌≢◌, suc, ap₂, arith, ℕ, ◌≡◌, List, [], ◌∷◌, All, refl}
 use Rattle.std.specs.Str.{IsUtf8}
 use Rattle.std.specs.Bool.{Decides}
 use Rattle.std.specs.Char.{IsAsciiDigit, is_ascii_digit}
-use Rattle.std.specs.List.{AllByRecursion, list_all}
+use Rattle.std.specs.List.{list_all}
 use Rattle.std.specs.Str.Parse.{AllDigits, IsNumeral}
 use Rattle.std.proofs.lemmas.List.Elements.{All-from_recursion}
 use Rattle.std.proofs.lemmas.Fmt.{IsAscii-from_digits}

@@ -11,12 +11,12 @@ use Rattle.game_core.specs.declared.token.Token.{Token}
 use Rattle.game_core.specs.declared.token.Token.TheVariants.{Left, Right, Word}
 use Rattle.file_parts.specs.Parts.{whole_number, IsComment, IsOpen, ArePlayers}
 use Rattle.file_parts.specs.Reading.{opening_brace_at, closing_brace_at, text_at, whole_at, count_at, opens, after_text}
-use Rattle.file_parts.specs.Parsing.{Parsed, ◌>>=◌, wanted, passed, parse_each, parse_names, parse_payoffs, parse_title}
+use Rattle.file_parts.specs.Parsing.{Parsed, ◌>>=◌, wanted, expected_mark, parse_each, parse_names, parse_payoffs, parse_title}
 use Rattle.file_parts.proofs.TokenLaws.{names_is, closing_brace_is, comment_is, whole_is, whole_again}
 use Rattle.file_parts.proofs.HeaderLaws.{title_is}
 use Rattle.file_parts.proofs.NumberLaws.{payoffs_are, repeat_are}
 use Rattle.file_parts.proofs.ReaderLemmas.{chain, ReadsAs, FaultsAre, bind_faults, each_faults, pure_faults, ok_same, err_same, ok_err, bind_ok, bind_err, reads_alone, each_reader}
-use Rattle.file_parts.proofs.TokenReaderLemmas.{wanted_faults, passed_faults, some_or_none}
+use Rattle.file_parts.proofs.TokenReaderLemmas.{wanted_faults, expected_mark_faults, some_or_none}
 use Rattle.file_parts.proofs.PartReaderLemmas.{title_reader, names_reader, payoffs_reader, title_faults, names_faults, payoffs_faults}
 use Rattle.file_parts.proofs.ValueLemmas.{value, value_title, value_names, value_payoffs, value_each}
 use Rattle.nfg_reader.specs.TableFile.{counted_names, outcome_payoffs, IsFront, AreOutcomes, AreStrategyTokens}
@@ -64,7 +64,7 @@ payoffs_read n front payoffs r =
     let p = payoffs_are n front (payoffs, []) (sym (value_payoffs PayoffCount n front) ∙ ap value (reads_alone (parse_payoffs PayoffCount n) front payoffs r)) in
     subst (ArePayoffsOf n) (sym (append-nil p.front) ∙ sym p.is) (payoffs, p.are_numbers, p.all)
 
-closed_read : (n : ℕ) (front : List Token) (outcomes : List (List ℚ)) (x : List (List ℚ) × List Token) → (list : List Token) × AreOutcomes n list x.0 × (front ≡ list ++ x.1) → (o : Option (List Token)) → closing_brace_at x.1 ≡ o → ◌≡◌ {A = Parsed NfgKind (List (List ℚ))} (chain (passed Outcome x.1 o) (λ rest. Ok (x.0, rest.1))) (Ok (outcomes, [])) → AreClosedOutcomes n outcomes front
+closed_read : (n : ℕ) (front : List Token) (outcomes : List (List ℚ)) (x : List (List ℚ) × List Token) → (list : List Token) × AreOutcomes n list x.0 × (front ≡ list ++ x.1) → (o : Option (List Token)) → closing_brace_at x.1 ≡ o → ◌≡◌ {A = Parsed NfgKind (List (List ℚ))} (chain (expected_mark Outcome x.1 o) (λ rest. Ok (x.0, rest.1))) (Ok (outcomes, [])) → AreClosedOutcomes n outcomes front
 closed_read n front outcomes x l None r e = absurd (ok_err (outcomes, []) (Outcome, x.1) (sym e))
 closed_read n front outcomes x l (Some rest) r e =
     let same = ok_same (x.0, rest) (outcomes, []) e in
@@ -97,20 +97,20 @@ pub strategies_faults : (n : ℕ) → FaultsAre (λ k _. k ≡ Strategies) (pars
 unfolding parse_strategies parse_counted parse_named
 strategies_faults n =
     let P : NfgKind → List Token → Type 0 = λ k _. k ≡ Strategies in
-    let counted : FaultsAre P (parse_counted n) = bind_faults P (λ tokens. parse_each parse_count 0 n tokens) (λ counts tokens. passed Strategies tokens (closing_brace_at tokens) >>= λ rest. Ok (map counted_names counts, rest.1)) (each_faults P parse_count (λ _. wanted_faults Strategies count_at) 0 n)
-    (λ counts. bind_faults P (λ tokens. passed Strategies tokens (closing_brace_at tokens)) (λ _ tokens. Ok (map counted_names counts, tokens)) (passed_faults Strategies closing_brace_at) (λ _. pure_faults P (map counted_names counts))) in
-    let named : FaultsAre P (parse_named n) = bind_faults P (λ tokens. parse_each (λ _. parse_names Strategies) 0 n tokens) (λ lists tokens. passed Strategies tokens (closing_brace_at tokens) >>= λ rest. Ok (lists, rest.1)) (each_faults P (λ _. parse_names Strategies) (λ _. names_faults Strategies) 0 n)
-    (λ lists. bind_faults P (λ tokens. passed Strategies tokens (closing_brace_at tokens)) (λ _ tokens. Ok (lists, tokens)) (passed_faults Strategies closing_brace_at) (λ _. pure_faults P lists)) in
-    bind_faults P (λ tokens. passed Strategies tokens (opening_brace_at tokens)) (λ _ tokens. if opens tokens then parse_named n tokens else parse_counted n tokens) (passed_faults Strategies opening_brace_at) (λ _. if_faults P opens (parse_named n) (parse_counted n) named counted)
+    let counted : FaultsAre P (parse_counted n) = bind_faults P (λ tokens. parse_each parse_count 0 n tokens) (λ counts tokens. expected_mark Strategies tokens (closing_brace_at tokens) >>= λ rest. Ok (map counted_names counts, rest.1)) (each_faults P parse_count (λ _. wanted_faults Strategies count_at) 0 n)
+    (λ counts. bind_faults P (λ tokens. expected_mark Strategies tokens (closing_brace_at tokens)) (λ _ tokens. Ok (map counted_names counts, tokens)) (expected_mark_faults Strategies closing_brace_at) (λ _. pure_faults P (map counted_names counts))) in
+    let named : FaultsAre P (parse_named n) = bind_faults P (λ tokens. parse_each (λ _. parse_names Strategies) 0 n tokens) (λ lists tokens. expected_mark Strategies tokens (closing_brace_at tokens) >>= λ rest. Ok (lists, rest.1)) (each_faults P (λ _. parse_names Strategies) (λ _. names_faults Strategies) 0 n)
+    (λ lists. bind_faults P (λ tokens. expected_mark Strategies tokens (closing_brace_at tokens)) (λ _ tokens. Ok (lists, tokens)) (expected_mark_faults Strategies closing_brace_at) (λ _. pure_faults P lists)) in
+    bind_faults P (λ tokens. expected_mark Strategies tokens (opening_brace_at tokens)) (λ _ tokens. if opens tokens then parse_named n tokens else parse_counted n tokens) (expected_mark_faults Strategies opening_brace_at) (λ _. if_faults P opens (parse_named n) (parse_counted n) named counted)
 
 outcome_faults : (n : ℕ) → FaultsAre (λ k _. k ≡ Outcome) (parse_outcome n)
 unfolding parse_outcome
 outcome_faults n =
     let P : NfgKind → List Token → Type 0 = λ k _. k ≡ Outcome in
-    bind_faults P (λ tokens. passed Outcome tokens (opening_brace_at tokens)) (λ _ tokens. wanted Outcome tokens (text_at tokens) >>= λ name. parse_payoffs Outcome n name.1 >>= λ payoffs. passed Outcome payoffs.1 (closing_brace_at payoffs.1) >>= λ rest. Ok (payoffs.0, rest.1)) (passed_faults Outcome opening_brace_at)
-    (λ _. bind_faults P (λ tokens. wanted Outcome tokens (text_at tokens)) (λ _ tokens. parse_payoffs Outcome n tokens >>= λ payoffs. passed Outcome payoffs.1 (closing_brace_at payoffs.1) >>= λ rest. Ok (payoffs.0, rest.1)) (wanted_faults Outcome text_at)
-    (λ _. bind_faults P (parse_payoffs Outcome n) (λ payoffs tokens. passed Outcome tokens (closing_brace_at tokens) >>= λ rest. Ok (payoffs, rest.1)) (payoffs_faults Outcome n)
-    (λ payoffs. bind_faults P (λ tokens. passed Outcome tokens (closing_brace_at tokens)) (λ _ tokens. Ok (payoffs, tokens)) (passed_faults Outcome closing_brace_at) (λ _. pure_faults P payoffs))))
+    bind_faults P (λ tokens. expected_mark Outcome tokens (opening_brace_at tokens)) (λ _ tokens. wanted Outcome tokens (text_at tokens) >>= λ name. parse_payoffs Outcome n name.1 >>= λ payoffs. expected_mark Outcome payoffs.1 (closing_brace_at payoffs.1) >>= λ rest. Ok (payoffs.0, rest.1)) (expected_mark_faults Outcome opening_brace_at)
+    (λ _. bind_faults P (λ tokens. wanted Outcome tokens (text_at tokens)) (λ _ tokens. parse_payoffs Outcome n tokens >>= λ payoffs. expected_mark Outcome payoffs.1 (closing_brace_at payoffs.1) >>= λ rest. Ok (payoffs.0, rest.1)) (wanted_faults Outcome text_at)
+    (λ _. bind_faults P (parse_payoffs Outcome n) (λ payoffs tokens. expected_mark Outcome tokens (closing_brace_at tokens) >>= λ rest. Ok (payoffs, rest.1)) (payoffs_faults Outcome n)
+    (λ payoffs. bind_faults P (λ tokens. expected_mark Outcome tokens (closing_brace_at tokens)) (λ _ tokens. Ok (payoffs, tokens)) (expected_mark_faults Outcome closing_brace_at) (λ _. pure_faults P payoffs))))
 
 outcomes_faults : (n most : ℕ) → FaultsAre (λ k _. k ≡ Outcome) (parse_outcomes n most)
 outcomes_faults n zero = pure_faults (λ k _. k ≡ Outcome) []
@@ -122,7 +122,7 @@ outcomes_faults n (suc most) =
 pub closed_faults : (n : ℕ) → FaultsAre (λ k _. k ≡ Outcome) (closed_outcomes n (λ outcomes. outcomes))
 closed_faults n tokens fault e =
     let P : NfgKind → List Token → Type 0 = λ k _. k ≡ Outcome in
-    bind_faults P (parse_outcomes n (length tokens)) (λ outcomes rest. passed Outcome rest (closing_brace_at rest) >>= λ after. Ok (outcomes, after.1)) (outcomes_faults n (length tokens)) (λ outcomes. bind_faults P (λ rest. passed Outcome rest (closing_brace_at rest)) (λ _ rest. Ok (outcomes, rest)) (passed_faults Outcome closing_brace_at) (λ _. pure_faults P outcomes)) tokens fault e
+    bind_faults P (parse_outcomes n (length tokens)) (λ outcomes rest. expected_mark Outcome rest (closing_brace_at rest) >>= λ after. Ok (outcomes, after.1)) (outcomes_faults n (length tokens)) (λ outcomes. bind_faults P (λ rest. expected_mark Outcome rest (closing_brace_at rest)) (λ _ rest. Ok (outcomes, rest)) (expected_mark_faults Outcome closing_brace_at) (λ _. pure_faults P outcomes)) tokens fault e
 
 -- a whole number that no outcome has, or no whole number
 abbrev pub IsNumberFault : NfgKind → List Token → Type 0

@@ -39,11 +39,11 @@ outcomes_go_on players m n front tokens one after total o lt less h so_far =
 -- a fault comes next
 outcomes_fault : (players m : ℕ) (front : List (List ℚ)) (tokens : List Token) (stopped : PartStop NfgKind) (total : Parsed NfgKind (List (List ℚ))) → opens tokens ≡ true → 0 < m → (o : Parsed NfgKind (List ℚ)) → parse_outcome players tokens ≡ o → IsPartStop stopped o → following front (parse_outcomes players m tokens) ≡ total → IsPartStop stopped total
 outcomes_fault players m front tokens part_stops.Memory total o lt r e h so_far = tt
-outcomes_fault players m front tokens (part_stops.Unexpected kind left) total o lt (Ok x) e h so_far = cc
-outcomes_fault players m front tokens (part_stops.Unexpected kind left) total o lt (Err fault) e h so_far =
+outcomes_fault players m front tokens (part_stops.Unexpected unfit) total o lt (Ok x) e h so_far = cc
+outcomes_fault players m front tokens (part_stops.Unexpected unfit) total o lt (Err fault) e h so_far =
     let next : following front (parse_outcomes players m tokens) ≡ Err fault = rw (one_outcome players m tokens lt o, e) refl in
     let all : total ≡ Err fault = sym so_far ∙ next in
-    rw all (ap (λ (f : NfgKind × ℕ). Err f) (err_same (fault.0, length fault.1) (kind, left) h))
+    rw all (ap (λ (f : NfgKind × ℕ). Err f) (err_same (fault.0, length fault.1) (unfit.kind, unfit.left) h))
 
 -- the same by the outcome's own stop
 pub outcomes_end : (players m : ℕ) (front : List (List ℚ)) (tokens : List Token) (stopped : PartStop NfgKind) (total : Parsed NfgKind (List (List ℚ))) → opens tokens ≡ true → 0 < m → IsPartStop stopped (parse_outcome players tokens) → following front (parse_outcomes players m tokens) ≡ total → IsPartStop stopped total

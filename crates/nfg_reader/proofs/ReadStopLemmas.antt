@@ -42,10 +42,10 @@ counted_fault {Y} (Err fault) kind left e =
 -- a stop that is the fault of the file
 fault_stop : {Y : Type 0} (tokens : TokenList) (o : Result Y (NfgKind × List Token)) (stopped : PartStop NfgKind) (stop : NfgStop) → IsPartStop stopped o → IsNfgStop stopped tokens stop → ((kind : NfgKind) (rest : List Token) → o ≡ Err (kind, rest) → (parse_table (bare tokens.list) ≡ Err (kind, rest)) × ¬ (HasTooManyPayoffs (bare tokens.list))) → Gives stops.Memory (table_in tokens) (Err stop)
 fault_stop tokens o part_stops.Memory stop r s all = inl s
-fault_stop tokens o (part_stops.Unexpected kind left) stop r s all =
-    let f = counted_fault o kind left r in
-    let t = all kind f.0 f.1 in
-    subst (λ stop. Gives stops.Memory (table_in tokens) (Err stop)) (sym s) (inr ((f.0, stop_is_fault (bare tokens.list) kind f.0 t.0, ap (offset_of tokens) (sym f.2)), t.1))
+fault_stop tokens o (part_stops.Unexpected fault) stop r s all =
+    let f = counted_fault o fault.kind fault.left r in
+    let t = all fault.kind f.0 f.1 in
+    subst (λ stop. Gives stops.Memory (table_in tokens) (Err stop)) (sym s) (inr ((f.0, stop_is_fault (bare tokens.list) fault.kind f.0 t.0, ap (offset_of tokens) (sym f.2)), t.1))
 
 -- where no front is read
 pub front_stop : (tokens : TokenList) (stopped : PartStop NfgKind) (stop : NfgStop) → IsPartStop stopped (parse_front (bare tokens.list)) → IsNfgStop stopped tokens stop → Gives stops.Memory (table_in tokens) (Err stop)

@@ -9,7 +9,7 @@ use Rattle.game_core.specs.declared.token.Token.{Token}
 use Rattle.game_core.specs.declared.token.Token.TheVariants.{Left, Right, Text}
 use Rattle.file_parts.specs.Parts.{whole_number}
 use Rattle.file_parts.specs.Reading.{opening_brace_at, closing_brace_at, text_at, after_text, opens, whole_at, count_at}
-use Rattle.file_parts.specs.Parsing.{Parsed, ◌>>=◌, wanted, passed, parse_each, parse_names, parse_payoffs, parse_title}
+use Rattle.file_parts.specs.Parsing.{Parsed, ◌>>=◌, wanted, expected_mark, parse_each, parse_names, parse_payoffs, parse_title}
 use Rattle.file_parts.proofs.ReaderLemmas.{ReadsAs, IsReader, bind_reader, pure_reader, each_reader, choose, choose_reader, choose_at, bind_at, same_at, same_reader, token_reader, Chooses, LooksAhead, HasSample, bind_ok, ok_err, result_of, reads_alone}
 use Rattle.file_parts.proofs.ValueLemmas.{value, value_names}
 use Rattle.file_parts.proofs.TokenLaws.{names_is, whole_again, le_passes}
@@ -27,13 +27,13 @@ use Rattle.nfg_reader.specs.declared.reading.NfgKind.TheVariants.{Header, Player
 -- ---- strategies
 counted_reader : (n : ℕ) → IsReader (parse_counted n)
 unfolding parse_counted
-counted_reader n = bind_reader (λ tokens. parse_each parse_count 0 n tokens) (λ counts tokens. passed Strategies tokens (closing_brace_at tokens) >>= λ rest. Ok (map counted_names counts, rest.1)) (each_reader parse_count (λ _. count_reader Strategies) 0 n)
-    (λ _ counts _. bind_reader (λ tokens. passed Strategies tokens (closing_brace_at tokens)) (λ _ tokens. Ok (map counted_names counts, tokens)) (closing_brace_reader Strategies) (λ _ _ _. pure_reader (map counted_names counts)))
+counted_reader n = bind_reader (λ tokens. parse_each parse_count 0 n tokens) (λ counts tokens. expected_mark Strategies tokens (closing_brace_at tokens) >>= λ rest. Ok (map counted_names counts, rest.1)) (each_reader parse_count (λ _. count_reader Strategies) 0 n)
+    (λ _ counts _. bind_reader (λ tokens. expected_mark Strategies tokens (closing_brace_at tokens)) (λ _ tokens. Ok (map counted_names counts, tokens)) (closing_brace_reader Strategies) (λ _ _ _. pure_reader (map counted_names counts)))
 
 named_reader : (n : ℕ) → IsReader (parse_named n)
 unfolding parse_named
-named_reader n = bind_reader (λ tokens. parse_each (λ _. parse_names Strategies) 0 n tokens) (λ lists tokens. passed Strategies tokens (closing_brace_at tokens) >>= λ rest. Ok (lists, rest.1)) (each_reader (λ _. parse_names Strategies) (λ _. names_reader Strategies) 0 n)
-    (λ _ lists _. bind_reader (λ tokens. passed Strategies tokens (closing_brace_at tokens)) (λ _ tokens. Ok (lists, tokens)) (closing_brace_reader Strategies) (λ _ _ _. pure_reader lists))
+named_reader n = bind_reader (λ tokens. parse_each (λ _. parse_names Strategies) 0 n tokens) (λ lists tokens. expected_mark Strategies tokens (closing_brace_at tokens) >>= λ rest. Ok (lists, rest.1)) (each_reader (λ _. parse_names Strategies) (λ _. names_reader Strategies) 0 n)
+    (λ _ lists _. bind_reader (λ tokens. expected_mark Strategies tokens (closing_brace_at tokens)) (λ _ tokens. Ok (lists, tokens)) (closing_brace_reader Strategies) (λ _ _ _. pure_reader lists))
 
 -- no count opens
 counted_closed : (n : ℕ) (tokens : List Token) (y : List (List (List ℕ)) × List Token) → opens tokens ≡ true → parse_counted n tokens ≡ Ok y → ⊥
@@ -52,7 +52,7 @@ named_open (suc n) tokens y h o e = ok_err y (Strategies, tokens) (sym e)
 -- strategies
 pub strategies_reader : (n : ℕ) → 1 ≤ n → IsReader (parse_strategies n)
 unfolding parse_strategies
-strategies_reader n h = bind_reader (λ tokens. passed Strategies tokens (opening_brace_at tokens)) (λ _ tokens. if opens tokens then parse_named n tokens else parse_counted n tokens) (opening_brace_reader Strategies)
+strategies_reader n h = bind_reader (λ tokens. expected_mark Strategies tokens (opening_brace_at tokens)) (λ _ tokens. if opens tokens then parse_named n tokens else parse_counted n tokens) (opening_brace_reader Strategies)
     (λ _ _ _. choose_reader opens (parse_named n) (parse_counted n) (record { heads = opens_first; only_p = λ tokens y. named_open n tokens y h; only_q = counted_closed n }) (named_reader n) (counted_reader n))
 
 -- ---- the front
@@ -73,10 +73,10 @@ front_reader =
 pub outcome_reader : (n : ℕ) → IsReader (parse_outcome n)
 unfolding parse_outcome
 outcome_reader n =
-    bind_reader (λ tokens. passed Outcome tokens (opening_brace_at tokens)) (λ _ tokens. wanted Outcome tokens (text_at tokens) >>= λ name. parse_payoffs Outcome n name.1 >>= λ payoffs. passed Outcome payoffs.1 (closing_brace_at payoffs.1) >>= λ rest. Ok (payoffs.0, rest.1)) (opening_brace_reader Outcome)
-    (λ _ _ _. bind_reader (λ tokens. wanted Outcome tokens (text_at tokens)) (λ _ tokens. parse_payoffs Outcome n tokens >>= λ payoffs. passed Outcome payoffs.1 (closing_brace_at payoffs.1) >>= λ rest. Ok (payoffs.0, rest.1)) (text_reader Outcome)
-    (λ _ _ _. bind_reader (parse_payoffs Outcome n) (λ payoffs tokens. passed Outcome tokens (closing_brace_at tokens) >>= λ rest. Ok (payoffs, rest.1)) (payoffs_reader Outcome n)
-    (λ _ payoffs _. bind_reader (λ tokens. passed Outcome tokens (closing_brace_at tokens)) (λ _ tokens. Ok (payoffs, tokens)) (closing_brace_reader Outcome) (λ _ _ _. pure_reader payoffs))))
+    bind_reader (λ tokens. expected_mark Outcome tokens (opening_brace_at tokens)) (λ _ tokens. wanted Outcome tokens (text_at tokens) >>= λ name. parse_payoffs Outcome n name.1 >>= λ payoffs. expected_mark Outcome payoffs.1 (closing_brace_at payoffs.1) >>= λ rest. Ok (payoffs.0, rest.1)) (opening_brace_reader Outcome)
+    (λ _ _ _. bind_reader (λ tokens. wanted Outcome tokens (text_at tokens)) (λ _ tokens. parse_payoffs Outcome n tokens >>= λ payoffs. expected_mark Outcome payoffs.1 (closing_brace_at payoffs.1) >>= λ rest. Ok (payoffs.0, rest.1)) (text_reader Outcome)
+    (λ _ _ _. bind_reader (parse_payoffs Outcome n) (λ payoffs tokens. expected_mark Outcome tokens (closing_brace_at tokens) >>= λ rest. Ok (payoffs, rest.1)) (payoffs_reader Outcome n)
+    (λ _ payoffs _. bind_reader (λ tokens. expected_mark Outcome tokens (closing_brace_at tokens)) (λ _ tokens. Ok (payoffs, tokens)) (closing_brace_reader Outcome) (λ _ _ _. pure_reader payoffs))))
 
 -- an outcome opens
 outcome_open : (n : ℕ) (tokens : List Token) (y : List ℚ × List Token) → opens tokens ≡ false → parse_outcome n tokens ≡ Ok y → ⊥
@@ -109,7 +109,7 @@ enough n (suc m) (suc k) tokens a b = elim (result_of (parse_outcome n tokens)) 
 
 -- outcomes up to a closing brace, seen by f
 abbrev pub closed_outcomes : {X : Type 0} → ℕ → (List (List ℚ) → X) → List Token → Parsed NfgKind X
-closed_outcomes n f tokens = parse_outcomes n (length tokens) tokens >>= λ outcomes. passed Outcome outcomes.1 (closing_brace_at outcomes.1) >>= λ rest. Ok (f outcomes.0, rest.1)
+closed_outcomes n f tokens = parse_outcomes n (length tokens) tokens >>= λ outcomes. expected_mark Outcome outcomes.1 (closing_brace_at outcomes.1) >>= λ rest. Ok (f outcomes.0, rest.1)
 
 -- one outcome, and others
 one_outcome : {X : Type 0} → ℕ → (List (List ℚ) → X) → List Token → Parsed NfgKind X
@@ -117,7 +117,7 @@ one_outcome n f tokens = parse_outcome n tokens >>= λ one. closed_outcomes n (�
 
 -- no outcome
 no_outcome : {X : Type 0} → (List (List ℚ) → X) → List Token → Parsed NfgKind X
-no_outcome f tokens = passed Outcome tokens (closing_brace_at tokens) >>= λ rest. Ok (f [], rest.1)
+no_outcome f tokens = expected_mark Outcome tokens (closing_brace_at tokens) >>= λ rest. Ok (f [], rest.1)
 
 -- one before the others
 abbrev and_one : List ℚ → Parsed NfgKind (List (List ℚ)) → Parsed NfgKind (List (List ℚ))
@@ -125,7 +125,7 @@ and_one one o = o >>= λ more. Ok (one ∷ more.0, more.1)
 
 -- the closing brace
 abbrev close : {X : Type 0} → (List (List ℚ) → X) → Parsed NfgKind (List (List ℚ)) → Parsed NfgKind X
-close f o = o >>= λ outcomes. passed Outcome outcomes.1 (closing_brace_at outcomes.1) >>= λ rest. Ok (f outcomes.0, rest.1)
+close f o = o >>= λ outcomes. expected_mark Outcome outcomes.1 (closing_brace_at outcomes.1) >>= λ rest. Ok (f outcomes.0, rest.1)
 
 after_one : {X : Type 0} (o : Parsed NfgKind (List (List ℚ))) (one : List ℚ) (f : List (List ℚ) → X) → close f (and_one one o) ≡ close (λ outcomes. f (one ∷ outcomes)) o
 after_one (Ok x) one f = refl
@@ -149,7 +149,7 @@ outcomes_are_closed n f (t ∷ tokens) = refl
 -- the closing brace comes alone
 none_reader : {X : Type 0} (f : List (List ℚ) → X) → IsReader (no_outcome f)
 unfolding no_outcome
-none_reader f = bind_reader (λ tokens. passed Outcome tokens (closing_brace_at tokens)) (λ _ tokens. Ok (f [], tokens)) (closing_brace_reader Outcome) (λ _ _ _. pure_reader (f []))
+none_reader f = bind_reader (λ tokens. expected_mark Outcome tokens (closing_brace_at tokens)) (λ _ tokens. Ok (f [], tokens)) (closing_brace_reader Outcome) (λ _ _ _. pure_reader (f []))
 
 -- and does not open
 not_closed : {X : Type 0} (f : List (List ℚ) → X) (tokens : List Token) (y : X × List Token) → opens tokens ≡ true → no_outcome f tokens ≡ Ok y → ⊥
@@ -219,20 +219,20 @@ number_reader outcomes i = token_reader (parse_number outcomes i) (record { toke
 abbrev pub numbers_of : ℕ → ℕ → List (List ℚ) × List Token → Parsed NfgKind (List ℚ)
 numbers_of n profiles outcomes = parse_each (parse_number (length outcomes.0)) 0 profiles outcomes.1 >>= λ numbers. Ok (flat_map (outcome_payoffs n outcomes.0) numbers.0, numbers.1)
 
-numbers_after : (n profiles : ℕ) (o : Parsed NfgKind (List (List ℚ))) → (o >>= λ outcomes. passed Outcome outcomes.1 (closing_brace_at outcomes.1) >>= λ rest. numbers_of n profiles (outcomes.0, rest.1)) ≡ close (λ outcomes. outcomes) o >>= numbers_of n profiles
+numbers_after : (n profiles : ℕ) (o : Parsed NfgKind (List (List ℚ))) → (o >>= λ outcomes. expected_mark Outcome outcomes.1 (closing_brace_at outcomes.1) >>= λ rest. numbers_of n profiles (outcomes.0, rest.1)) ≡ close (λ outcomes. outcomes) o >>= numbers_of n profiles
 numbers_after n profiles (Err fault) = refl
-numbers_after n profiles (Ok x) = elim (result_of (passed Outcome x.1 (closing_brace_at x.1))) [
+numbers_after n profiles (Ok x) = elim (result_of (expected_mark Outcome x.1 (closing_brace_at x.1))) [
   | inl y ↦ rw y.1 refl
   | inr f ↦ rw f.1 refl
 ]
 
-pub numbers_beyond : (n profiles : ℕ) (tokens : List Token) → (parse_outcomes n (length tokens) tokens >>= λ outcomes. passed Outcome outcomes.1 (closing_brace_at outcomes.1) >>= λ rest. numbers_of n profiles (outcomes.0, rest.1)) ≡ (closed_outcomes n (λ outcomes. outcomes) tokens >>= λ outcomes. numbers_of n profiles (outcomes.0, outcomes.1))
+pub numbers_beyond : (n profiles : ℕ) (tokens : List Token) → (parse_outcomes n (length tokens) tokens >>= λ outcomes. expected_mark Outcome outcomes.1 (closing_brace_at outcomes.1) >>= λ rest. numbers_of n profiles (outcomes.0, rest.1)) ≡ (closed_outcomes n (λ outcomes. outcomes) tokens >>= λ outcomes. numbers_of n profiles (outcomes.0, outcomes.1))
 numbers_beyond n profiles tokens = numbers_after n profiles (parse_outcomes n (length tokens) tokens)
 
 pub outcome_body_reader : (n profiles : ℕ) → IsReader (parse_outcome_body n profiles)
 unfolding parse_outcome_body
 outcome_body_reader n profiles =
-    bind_reader (λ tokens. passed PayoffCount tokens (opening_brace_at tokens)) (λ _ tokens. parse_outcomes n (length tokens) tokens >>= λ outcomes. passed Outcome outcomes.1 (closing_brace_at outcomes.1) >>= λ rest. parse_each (parse_number (length outcomes.0)) 0 profiles rest.1 >>= λ numbers. Ok (flat_map (outcome_payoffs n outcomes.0) numbers.0, numbers.1)) (opening_brace_reader PayoffCount)
+    bind_reader (λ tokens. expected_mark PayoffCount tokens (opening_brace_at tokens)) (λ _ tokens. parse_outcomes n (length tokens) tokens >>= λ outcomes. expected_mark Outcome outcomes.1 (closing_brace_at outcomes.1) >>= λ rest. parse_each (parse_number (length outcomes.0)) 0 profiles rest.1 >>= λ numbers. Ok (flat_map (outcome_payoffs n outcomes.0) numbers.0, numbers.1)) (opening_brace_reader PayoffCount)
     (λ _ _ _. same_reader _ _ (numbers_beyond n profiles) (bind_reader (closed_outcomes n (λ outcomes. outcomes)) (λ outcomes tokens. parse_each (parse_number (length outcomes)) 0 profiles tokens >>= λ numbers. Ok (flat_map (outcome_payoffs n outcomes) numbers.0, numbers.1)) (outcomes_reader n)
     (λ _ outcomes _. bind_reader (λ tokens. parse_each (parse_number (length outcomes)) 0 profiles tokens) (λ numbers tokens. Ok (flat_map (outcome_payoffs n outcomes) numbers, tokens)) (each_reader (parse_number (length outcomes)) (number_reader (length outcomes)) 0 profiles)
     (λ _ numbers _. pure_reader (flat_map (outcome_payoffs n outcomes) numbers)))))

@@ -6,7 +6,7 @@ use Rattle.file_parts.specs.Reading.{opening_brace_at, closing_brace_at, text_at
 use Rattle.file_parts.proofs.ValueLemmas.{names_at, payoffs_at, repeat_at, title_at}
 use Rattle.file_parts.specs.Parsing.{wanted, parse_each, parse_names, parse_payoffs, parse_title}
 use Rattle.file_parts.proofs.ReaderLemmas.{chain}
-use Rattle.file_parts.proofs.ValueLemmas.{value, value_wanted, value_passed, value_chain, value_if, value_each, value_names, value_payoffs, value_title}
+use Rattle.file_parts.proofs.ValueLemmas.{value, value_wanted, value_expected_mark, value_chain, value_if, value_each, value_names, value_payoffs, value_title}
 use Rattle.nfg_reader.specs.Fronts.{profiles, FrontPart, table_of}
 use Rattle.nfg_reader.specs.TableParsing.{parse_count, parse_counted, parse_named, parse_strategies, parse_front, parse_outcome, parse_outcomes, parse_number, parse_outcome_body, parse_body, parse_rest, parse_table}
 use Rattle.nfg_reader.specs.declared.reading.NfgKind.TheVariants.{Header, Players, Strategies, Outcome, PayoffCount, Trailing}
@@ -96,15 +96,15 @@ table_at tokens = do
 
 value_counted : (n : ℕ) (tokens : List Token) → value (parse_counted n tokens) ≡ counted_at n tokens
 unfolding parse_counted counted_at
-value_counted n tokens = value_chain (parse_each parse_count 0 n tokens) _ _ _ (value_each parse_count (λ _. count_at) (λ i tokens. value_wanted Strategies tokens (count_at tokens)) 0 n tokens) (λ counts. value_passed Strategies counts.1 (closing_brace_at counts.1) _ _ (λ rest. refl))
+value_counted n tokens = value_chain (parse_each parse_count 0 n tokens) _ _ _ (value_each parse_count (λ _. count_at) (λ i tokens. value_wanted Strategies tokens (count_at tokens)) 0 n tokens) (λ counts. value_expected_mark Strategies counts.1 (closing_brace_at counts.1) _ _ (λ rest. refl))
 
 value_named : (n : ℕ) (tokens : List Token) → value (parse_named n tokens) ≡ named_at n tokens
 unfolding parse_named named_at
-value_named n tokens = value_chain (parse_each (λ _. parse_names Strategies) 0 n tokens) _ _ _ (value_each (λ _. parse_names Strategies) (λ _. names_at) (λ i tokens. value_names Strategies tokens) 0 n tokens) (λ lists. value_passed Strategies lists.1 (closing_brace_at lists.1) _ _ (λ rest. refl))
+value_named n tokens = value_chain (parse_each (λ _. parse_names Strategies) 0 n tokens) _ _ _ (value_each (λ _. parse_names Strategies) (λ _. names_at) (λ i tokens. value_names Strategies tokens) 0 n tokens) (λ lists. value_expected_mark Strategies lists.1 (closing_brace_at lists.1) _ _ (λ rest. refl))
 
 pub value_strategies : (n : ℕ) (tokens : List Token) → value (parse_strategies n tokens) ≡ strategies_at n tokens
 unfolding parse_strategies strategies_at
-value_strategies n tokens = value_passed Strategies tokens (opening_brace_at tokens) _ _ (λ inner. value_if (opens inner) (parse_named n inner) (parse_counted n inner) (named_at n inner) (counted_at n inner) (value_named n inner) (value_counted n inner))
+value_strategies n tokens = value_expected_mark Strategies tokens (opening_brace_at tokens) _ _ (λ inner. value_if (opens inner) (parse_named n inner) (parse_counted n inner) (named_at n inner) (counted_at n inner) (value_named n inner) (value_counted n inner))
 
 -- the front
 pub value_front : (tokens : List Token) → value (parse_front tokens) ≡ front_at tokens
@@ -117,9 +117,9 @@ value_front tokens =
 -- an outcome
 pub value_outcome : (n : ℕ) (tokens : List Token) → value (parse_outcome n tokens) ≡ outcome_at n tokens
 unfolding parse_outcome outcome_at
-value_outcome n tokens = value_passed Outcome tokens (opening_brace_at tokens) _ _ (λ inner.
+value_outcome n tokens = value_expected_mark Outcome tokens (opening_brace_at tokens) _ _ (λ inner.
     value_chain (wanted Outcome inner (text_at inner)) _ _ _ (value_wanted Outcome inner (text_at inner)) (λ name.
-    value_chain (parse_payoffs Outcome n name.1) _ _ _ (value_payoffs Outcome n name.1) (λ payoffs. value_passed Outcome payoffs.1 (closing_brace_at payoffs.1) _ _ (λ rest. refl))))
+    value_chain (parse_payoffs Outcome n name.1) _ _ _ (value_payoffs Outcome n name.1) (λ payoffs. value_expected_mark Outcome payoffs.1 (closing_brace_at payoffs.1) _ _ (λ rest. refl))))
 
 -- outcomes
 pub value_outcomes : (n most : ℕ) (tokens : List Token) → value (parse_outcomes n most tokens) ≡ outcomes_at n most tokens
@@ -132,9 +132,9 @@ value_number outcomes i tokens = value_chain (wanted PayoffCount tokens (whole_a
 
 value_outcome_body : (n count : ℕ) (tokens : List Token) → value (parse_outcome_body n count tokens) ≡ outcome_body_at n count tokens
 unfolding parse_outcome_body outcome_body_at
-value_outcome_body n count tokens = value_passed PayoffCount tokens (opening_brace_at tokens) _ _ (λ inner.
+value_outcome_body n count tokens = value_expected_mark PayoffCount tokens (opening_brace_at tokens) _ _ (λ inner.
     value_chain (parse_outcomes n (length inner) inner) _ _ _ (value_outcomes n (length inner) inner) (λ outcomes.
-    value_passed Outcome outcomes.1 (closing_brace_at outcomes.1) _ _ (λ rest.
+    value_expected_mark Outcome outcomes.1 (closing_brace_at outcomes.1) _ _ (λ rest.
     value_chain (parse_each (parse_number (length outcomes.0)) 0 count rest) _ _ _ (value_each (parse_number (length outcomes.0)) (λ _. outcome_number_at (length outcomes.0)) (value_number (length outcomes.0)) 0 count rest) (λ numbers. refl))))
 
 -- the body

@@ -28,7 +28,9 @@ IsTitle = IsTitlePart (codes "NFG") 1
 
 -- strategies for this many players
 abbrev pub AreStrategiesOf : ℕ → List Token → Type 0
-AreStrategiesOf players tokens = (strategies : List (List (List ℕ))) × AreStrategyTokens tokens strategies × (length strategies ≡ players)
+AreStrategiesOf players tokens =
+    (strategies : List (List (List ℕ))) × AreStrategyTokens tokens strategies
+    × (length strategies ≡ players)
 
 -- this many payoffs
 abbrev pub ArePayoffsOf : ℕ → List Token → Type 0
@@ -36,11 +38,14 @@ ArePayoffsOf n tokens = (payoffs : List ℚ) × AreNumbers tokens payoffs × (le
 
 -- outcomes and the brace that closes them
 abbrev pub AreClosedOutcomes : ℕ → List (List ℚ) → List Token → Type 0
-AreClosedOutcomes players outcomes tokens = (list : List Token) × AreOutcomes players list outcomes × (tokens ≡ list ++ Right ∷ [])
+AreClosedOutcomes players outcomes tokens =
+    (list : List Token) × AreOutcomes players list outcomes × (tokens ≡ list ++ Right ∷ [])
 
 -- this many numbers of so many outcomes
 abbrev pub AreNumbersOf : ℕ → ℕ → List Token → Type 0
-AreNumbersOf outcomes n tokens = (numbers : List ℕ) × AllByRecursion (λ m. m ≤ outcomes) numbers × (length numbers ≡ n) × (tokens ≡ map whole_number numbers)
+AreNumbersOf outcomes n tokens =
+    (numbers : List ℕ) × AllByRecursion (λ m. m ≤ outcomes) numbers × (length numbers ≡ n)
+    × (tokens ≡ map whole_number numbers)
 
 -- ---- what a file stops in
 -- the title and the players are whole, and the strategies are not
@@ -64,25 +69,33 @@ pub record HasBody (Begins : ℕ → ℕ → List Token → Type 0) (tokens : Li
 
 -- the outcomes' list is opened and not closed
 abbrev pub StopsInOutcomes : ℕ → ℕ → List Token → Type 0
-StopsInOutcomes players profiles body = (part : List Token) × (body ≡ Left ∷ part) × IsOpen (λ tokens. (outcomes : List (List ℚ)) × AreClosedOutcomes players outcomes tokens) part
+StopsInOutcomes players profiles body =
+    (part : List Token) × (body ≡ Left ∷ part)
+    × IsOpen (λ tokens. (outcomes : List (List ℚ)) × AreClosedOutcomes players outcomes tokens) part
 
 -- the outcomes' list is closed, and numbers of outcomes are wanted
 abbrev pub StopsInNumbers : ℕ → ℕ → List Token → Type 0
 StopsInNumbers players profiles body =
-    (list part : List Token) × (outcomes : List (List ℚ)) × (body ≡ Left ∷ list ++ part) × AreClosedOutcomes players outcomes list × IsOpen (AreNumbersOf (length outcomes) profiles) part
+    (list part : List Token) × (outcomes : List (List ℚ)) × (body ≡ Left ∷ list ++ part)
+    × AreClosedOutcomes players outcomes list
+    × IsOpen (AreNumbersOf (length outcomes) profiles) part
 
 -- payoffs are wanted
 abbrev pub StopsInPayoffs : ℕ → ℕ → List Token → Type 0
 StopsInPayoffs players profiles body = IsOpen (ArePayoffsOf (players * profiles)) body
 
--- The kind of the fault that these tokens have after those before: the part in which the file stops. Where the number of an outcome
--- is wanted, a whole number can only be one that no outcome has, and that is a fault of the outcomes.
+-- The kind of the fault that these tokens have after those before: the part in which the file
+-- stops. Where the number of an outcome is wanted, a whole number can only be one that no outcome
+-- has, and that is a fault of the outcomes.
 abbrev pub IsKind : NfgKind → List Token → List Token → Type 0
 IsKind Header before rest = IsOpen IsTitle before
-IsKind Players before rest = (title part : List Token) × (before ≡ title ++ part) × IsTitle title × IsOpen NamesPlayers part
+IsKind Players before rest =
+    (title part : List Token) × (before ≡ title ++ part) × IsTitle title × IsOpen NamesPlayers part
 IsKind Strategies before rest = StopsInStrategies before
-IsKind Outcome before rest = HasBody StopsInOutcomes before ⊎ (HasBody StopsInNumbers before × WholeComes rest)
-IsKind PayoffCount before rest = HasBody StopsInPayoffs before ⊎ (HasBody StopsInNumbers before × ¬ (WholeComes rest))
+IsKind Outcome before rest =
+    HasBody StopsInOutcomes before ⊎ (HasBody StopsInNumbers before × WholeComes rest)
+IsKind PayoffCount before rest =
+    HasBody StopsInPayoffs before ⊎ (HasBody StopsInNumbers before × ¬ (WholeComes rest))
 IsKind Trailing before rest = IsFile before
 
 -- a fault of this kind at this offset

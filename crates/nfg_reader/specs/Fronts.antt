@@ -21,11 +21,23 @@ pub record FrontPart : Type 0 where
 
 -- what a front of the code stands for
 abbrev pub front_of : Front → FrontPart
-front_of front = record { title = front.title; players = front.players.items; strategies = names_of front.strategies }
+front_of front =
+    record {
+      title = front.title;
+      players = front.players.items;
+      strategies = names_of front.strategies;
+    }
 
+-- how many profiles there are
 abbrev pub profiles : FrontPart → ℕ
 profiles front = profile_count (map length front.strategies)
 
 -- the table with these parts
 abbrev pub table_of : FrontPart → List ℚ → GameTable
-table_of front payoffs = record { title = front.title; players = front.players; strategies = front.strategies; payoffs = payoffs }
+table_of front payoffs =
+    record {
+      title = front.title;
+      players = front.players;
+      strategies = front.strategies;
+      payoffs = payoffs;
+    }

@@ -14,16 +14,18 @@ use Rattle.nfg_reader.specs.declared.reading.NfgKind.{NfgKind}
 use Rattle.nfg_reader.specs.declared.reading.NfgStop.{NfgStop}
 use Rattle.nfg_reader.specs.declared.reading.NfgStop.TheVariants as stops
 
--- The table of a file, within the limit on payoffs. A fault comes with its kind and offset where the tokens have one and do not
--- pass the limit; the limit comes where it is passed.
+-- The table of a file, within the limit on payoffs. A fault comes with its kind and offset where
+-- the tokens have one and do not pass the limit; the limit comes where it is passed.
 abbrev pub table_in : TokenList → Answer NfgStop GameTable
 table_in tokens (Ok table) = IsTableFile (bare tokens.list) table × IsTable table
-table_in tokens (Err (stops.Fault fault)) = IsFault tokens fault.kind fault.at × ¬ (HasTooManyPayoffs (bare tokens.list))
+table_in tokens (Err (stops.Fault fault)) =
+    IsFault tokens fault.kind fault.at × ¬ (HasTooManyPayoffs (bare tokens.list))
 table_in tokens (Err (stops.TooLarge limit)) =
     HasTooManyPayoffs (bare tokens.list) × (limit ≡ first_above Payoffs most_payoffs)
 table_in tokens (Err stops.Memory) = ⊥
 
 -- the stop that a part's becomes
 abbrev pub IsNfgStop : PartStop NfgKind → TokenList → NfgStop → Type 0
-IsNfgStop (part_stops.Unexpected kind left) tokens stop = stop ≡ stops.Fault (record { at = offset_of tokens left; kind = kind })
+IsNfgStop (part_stops.Unexpected fault) tokens stop =
+    stop ≡ stops.Fault (record { at = offset_of tokens fault.left; kind = fault.kind })
 IsNfgStop part_stops.Memory tokens stop = stop ≡ stops.Memory

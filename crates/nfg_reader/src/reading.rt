@@ -14,7 +14,7 @@ ghost use Rattle.nfg_reader.specs.declared.reading.NfgStop.TheVariants.{Memory};
 
 use crate::front::{Front, read_front};
 use crate::outcomes::last_payoffs;
-use crate::strategies::{profile_count, strategy_names};
+use crate::strategies::{profile_count_within_limit, strategy_names};
 use file_parts::{PartStop, offset};
 use frac128::Frac;
 use game_core::{MOST_PAYOFFS, Table, Tokens, TooLarge, What};
@@ -93,9 +93,9 @@ fn stop(stopped: PartStop<NfgKind>, tokens: &Tokens) -> NfgStop
     ensures { IsNfgStop stopped tokens.now result }
 {
     match stopped {
-        PartStop::Unexpected(kind, left) => NfgStop::Fault(NfgFault {
-            at: offset(tokens, left),
-            kind,
+        PartStop::Unexpected(fault) => NfgStop::Fault(NfgFault {
+            at: offset(tokens, fault.left),
+            kind: fault.kind,
         }),
         PartStop::Memory => NfgStop::Memory,
     }
@@ -131,7 +131,7 @@ pub fn read(alloc: Global, tokens: &Tokens) -> Result<Table, NfgStop>
         Err(stopped) => return Err(stop(stopped, tokens)),
     };
     let players = front.players.len();
-    let Some(profiles) = profile_count(alloc, players, &front.strategies)? else {
+    let Some(profiles) = profile_count_within_limit(alloc, players, &front.strategies)? else {
         return Err(NfgStop::TooLarge(TooLarge::first_above(What::Payoffs, MOST_PAYOFFS as u64)));
     };
     match last_payoffs(alloc, rest, players, profiles) {

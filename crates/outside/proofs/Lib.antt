@@ -1,2 +1,1 @@
-pub mod CountLemmas
 mod MemInputsLemmas

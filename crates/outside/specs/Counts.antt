@@ -14,7 +14,8 @@ count_of_more n more = min (n + more) (2 ^ 64 - 1)
 abbrev pub next_count : ℕ → ℕ
 next_count n = count_of_more n 1
 
--- what a call that may fail does to its count: an Ok leaves it as it was, and a refusal makes it one more
+-- what a call that may fail does to its count: an Ok leaves it as it was, and a refusal makes it
+-- one more
 pub record Counts {T E : Type 0} (before now : ℕ) (result : Result T E) : Type 0 where
   pub never_falls : before ≤ now
   pub same_at_ok : OnOk result (now ≡ before)

@@ -5,10 +5,10 @@ use Rattle.std.proofs.Common.{ap, ◌∙◌}
 use Rattle.std.proofs.Math.Seq.{drop-nil}
 use Rattle.outside.specs.Inputs.{InputName}
 
--- the bytes under no name, the names with their bytes, the numbers of the calls that fail, how many calls there
--- were, the selected and the failed input, how many bytes of the selected one are read, whether its end was
--- met, how many selections were made, in how many of them the end was met, and how many calls of each kind
--- have failed
+-- the bytes under no name, the names with their bytes, the numbers of the calls that fail, how many
+-- calls there were, the selected and the failed input, how many bytes of the selected one are read,
+-- whether its end was met, how many selections were made, in how many of them the end was met, and
+-- how many calls of each kind have failed
 pub record InputsState : Type 0 where
   pub plain : List ℕ
   pub named : List (List ℕ × List ℕ)
@@ -44,4 +44,6 @@ bytes_left s = drop s.position (selected_bytes s)
 -- where nothing is selected, nothing is left
 pub bytes_left-idle : (s : InputsState) → s.selected ≡ None → bytes_left s ≡ []
 bytes_left-idle s idle =
-    ap (λ chosen. drop s.position (unwrap_or (option_and_then (bytes_held s.plain s.named) chosen) [])) idle ∙ drop-nil s.position
+    ap (λ chosen. drop s.position
+    (unwrap_or (option_and_then (bytes_held s.plain s.named) chosen) [])) idle
+    ∙ drop-nil s.position

@@ -1,8 +1,8 @@
 -- What contracts see of a sink in memory.
 use Rattle.std.specs.Prelude.{ℕ, ◌-◌, Bool, List, length, min}
 
--- the bytes taken, the most bytes that one write takes, the most bytes in all, whether a flush fails, whether
--- the last call was a flush that answered Ok, and how many calls have failed
+-- the bytes taken, the most bytes that one write takes, the most bytes in all, whether a flush
+-- fails, whether the last call was a flush that answered Ok, and how many calls have failed
 pub record SinkState : Type 0 where
   pub taken : List ℕ
   pub most : ℕ

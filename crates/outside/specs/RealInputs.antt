@@ -2,9 +2,9 @@
 use Rattle.std.specs.Prelude.{ℕ, Bool, List, Option, is_some, unwrap_or, option_and_then}
 use Rattle.outside.specs.Inputs.{InputName}
 
--- the bytes left of standard input and of the open file, where they are known, the selected and the failed
--- input, whether the end of the selected one was met, how many selections were made, in how many of them the
--- end was met, and how many calls of each kind have failed
+-- the bytes left of standard input and of the open file, where they are known, the selected and the
+-- failed input, whether the end of the selected one was met, how many selections were made, in how
+-- many of them the end was met, and how many calls of each kind have failed
 pub record OpenState : Type 0 where
   pub standard : Option (List ℕ)
   pub file : Option (Option (List ℕ))

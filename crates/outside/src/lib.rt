@@ -7,7 +7,7 @@
 //! Definitions: `specs::Inputs` and `specs::Sink` say what contracts see of both, `specs::Counts`
 //! how calls that fail are counted, `specs::RealInputs` and `specs::RealSink` what the real ones
 //! keep.
-//! Private words: the module `tries`.
+//! Private words: the modules `selection` and `tries`.
 //! A change here touches: the contract of `run`, and `claims`, `basis_enum` and `enummixed`, which
 //! pass the gate.
 #![tactic(auto)]
@@ -18,6 +18,7 @@ mod mem_inputs;
 mod mem_sink;
 mod real_inputs;
 mod real_sink;
+mod selection;
 mod sink;
 mod tries;
 

@@ -8,6 +8,7 @@ ghost use Rattle.outside.specs.Inputs.{InputName, ends_after, meets_end};
 ghost use Rattle.outside.specs.MemInputs.{first_named, bytes_held, bytes_left, bytes_left-idle};
 
 use crate::inputs::{Inputs, OpenFailed, ReadFailed};
+use crate::selection::Selection;
 use std::marker::Model;
 
 /// Inputs that are held in memory and told: the bytes under no name, and names with their bytes.
@@ -19,14 +20,8 @@ pub struct MemInputs {
     named: Vec<(String, Vec<u8>)>,
     failing: Vec<u64>,
     calls: u64,
-    selected: Option<Option<String>>,
-    failed: Option<Option<String>>,
     position: usize,
-    at_end: bool,
-    selections: u64,
-    ends: u64,
-    open_faults: u64,
-    read_faults: u64,
+    selection: Selection,
 }
 
 impl Model for MemInputs {
@@ -40,14 +35,14 @@ impl Model for MemInputs {
       named = map (λ p. (string_bytes p.0, p.1.items)) s.named.items;
       failing = s.failing.items;
       calls = s.calls;
-      selected = option_map (option_map string_bytes) s.selected;
-      failed = option_map (option_map string_bytes) s.failed;
+      selected = option_map (option_map string_bytes) s.selection.selected;
+      failed = option_map (option_map string_bytes) s.selection.failed;
       position = s.position;
-      at_end = s.at_end;
-      selections = s.selections;
-      ends = s.ends;
-      open_faults = s.open_faults;
-      read_faults = s.read_faults;
+      at_end = s.selection.at_end;
+      selections = s.selection.selections;
+      ends = s.selection.ends;
+      open_faults = s.selection.open_faults;
+      read_faults = s.selection.read_faults;
     } };
 }
 
@@ -91,14 +86,8 @@ impl MemInputs {
             named,
             failing,
             calls: 0,
-            selected: None,
-            failed: None,
             position: 0,
-            at_end: false,
-            selections: 0,
-            ends: 0,
-            open_faults: 0,
-            read_faults: 0,
+            selection: Selection::new(),
         }
     }
 
@@ -127,28 +116,11 @@ impl MemInputs {
         ensures rest { result.now ≡ bytes_left self.now }
         ensures fits { self.now.position + length result.now < 2 ^ 64 }
     {
-        let bytes = match &self.selected {
+        let bytes = match &self.selection.selected {
             None => &[],
             Some(name) => self.bytes_of(name).unwrap_or(&[]),
         };
         after(bytes, self.position)
-    }
-
-    // Counts the end of the selected input, where a read with this room that answered `count` met
-    // it first.
-    fn count_end(&mut self, room: usize, count: usize)
-        requires selected { IsSome self.old.selected }
-        ensures at_end { self.new.at_end
-            ≡ (self.old.at_end || meets_end self.old.selected room count) }
-        ensures ends { self.new.ends
-            ≡ ends_after self.old.at_end self.new.at_end self.old.ends }
-        ensures others { self.new
-            ≡ record self.old { at_end = self.new.at_end; ends = self.new.ends } }
-    {
-        if count == 0 && room > 0 && !self.at_end {
-            self.at_end = true;
-            self.ends = self.ends.saturating_add(1);
-        }
     }
 }
 
@@ -214,16 +186,13 @@ impl Inputs for MemInputs {
     {
         let fails = self.counts_failing();
         let absent = self.bytes_of(&name).is_none();
-        self.selections = self.selections.saturating_add(1);
         self.position = 0;
-        self.at_end = false;
+        self.selection.begin();
         if fails || absent {
-            self.selected = None;
-            self.failed = Some(name);
-            self.open_faults = self.open_faults.saturating_add(1);
+            self.selection.refuse(name);
             return Err(OpenFailed);
         }
-        self.selected = Some(name);
+        self.selection.selected = Some(name);
         Ok(())
     }
 
@@ -277,18 +246,16 @@ impl Inputs for MemInputs {
         ensures unfilled { OnErr result (buf.new ≡ buf.old) }
     {
         let fails = self.counts_failing();
-        if self.selected.is_none() {
+        if self.selection.selected.is_none() {
             return Ok(0);
         }
         if fails {
-            self.failed = self.selected.take();
-            self.at_end = false;
-            self.read_faults = self.read_faults.saturating_add(1);
+            self.selection.fail();
             return Err(ReadFailed);
         }
         let count = copy_front(self.rest(), buf);
         self.position += count;
-        self.count_end(buf.len(), count);
+        self.selection.count_end(buf.len(), count);
         Ok(count)
     }
 

@@ -7,6 +7,7 @@ ghost use Rattle.outside.specs.Inputs.{ends_after, meets_end};
 ghost use Rattle.outside.specs.RealInputs.{source_left, is_named};
 
 use crate::inputs::{Inputs, OpenFailed, ReadFailed};
+use crate::selection::Selection;
 use crate::tries::MOST_TRIES;
 use std::fs;
 use std::io::{ErrorKind, Read};
@@ -21,13 +22,7 @@ pub struct RealInputs<'a, R: Files + Input + Drop> {
     rt: &'a R,
     reader: R::Reader,
     file: Option<R::File>,
-    selected: Option<Option<String>>,
-    failed: Option<Option<String>>,
-    at_end: bool,
-    selections: u64,
-    ends: u64,
-    open_faults: u64,
-    read_faults: u64,
+    selection: Selection,
 }
 
 impl<'a, R: Files + Input + Drop> Model for RealInputs<'a, R> {
@@ -39,16 +34,16 @@ impl<'a, R: Files + Input + Drop> Model for RealInputs<'a, R> {
     ghost view = { λ s. record {
       standard = R.Reader.remaining s.reader;
       file = option_map R.File.Read.remaining s.file;
-      selected = option_map (option_map string_bytes) s.selected;
-      failed = option_map (option_map string_bytes) s.failed;
-      at_end = s.at_end;
-      selections = s.selections;
-      ends = s.ends;
-      open_faults = s.open_faults;
-      read_faults = s.read_faults;
+      selected = option_map (option_map string_bytes) s.selection.selected;
+      failed = option_map (option_map string_bytes) s.selection.failed;
+      at_end = s.selection.at_end;
+      selections = s.selection.selections;
+      ends = s.selection.ends;
+      open_faults = s.selection.open_faults;
+      read_faults = s.selection.read_faults;
     } };
 
-    ghost invariant = { λ s. is_some s.file ≡ is_named s.selected };
+    ghost invariant = { λ s. is_some s.file ≡ is_named s.selection.selected };
 }
 
 impl<'a, R: Files + Input + Drop> RealInputs<'a, R> {
@@ -67,30 +62,7 @@ impl<'a, R: Files + Input + Drop> RealInputs<'a, R> {
             rt,
             reader: rt.reader(),
             file: None,
-            selected: None,
-            failed: None,
-            at_end: false,
-            selections: 0,
-            ends: 0,
-            open_faults: 0,
-            read_faults: 0,
-        }
-    }
-
-    // Counts the end of the selected input, where a read with this room that answered `count` met
-    // it first.
-    fn count_end(&mut self, room: usize, count: usize)
-        requires selected { IsSome self.old.selected }
-        ensures at_end { self.new.at_end
-            ≡ (self.old.at_end || meets_end self.old.selected room count) }
-        ensures ends { self.new.ends
-            ≡ ends_after self.old.at_end self.new.at_end self.old.ends }
-        ensures others { self.new
-            ≡ record self.old { at_end = self.new.at_end; ends = self.new.ends } }
-    {
-        if count == 0 && room > 0 && !self.at_end {
-            self.at_end = true;
-            self.ends = self.ends.saturating_add(1);
+            selection: Selection::new(),
         }
     }
 }
@@ -139,19 +111,16 @@ impl<'a, R: Files + Input + Drop> Inputs for RealInputs<'a, R> {
               open_faults = next_count self.old.open_faults;
             }) }
     {
-        self.selections = self.selections.saturating_add(1);
-        self.at_end = false;
+        self.selection.begin();
         match open_named(self.rt, &name) {
             Ok(file) => {
                 self.file = file;
-                self.selected = Some(name);
+                self.selection.selected = Some(name);
                 Ok(())
             }
             Err(failure) => {
                 self.file = None;
-                self.selected = None;
-                self.failed = Some(name);
-                self.open_faults = self.open_faults.saturating_add(1);
+                self.selection.refuse(name);
                 Err(failure)
             }
         }
@@ -189,7 +158,7 @@ impl<'a, R: Files + Input + Drop> Inputs for RealInputs<'a, R> {
               read_faults = next_count self.old.read_faults;
             }) }
     {
-        if self.selected.is_none() {
+        if self.selection.selected.is_none() {
             return Ok(0);
         }
         let count = match &mut self.file {
@@ -197,12 +166,10 @@ impl<'a, R: Files + Input + Drop> Inputs for RealInputs<'a, R> {
             None => read_some(&mut self.reader, buf),
         };
         match count {
-            Ok(count) => self.count_end(buf.len(), count),
+            Ok(count) => self.selection.count_end(buf.len(), count),
             Err(_) => {
                 self.file = None;
-                self.failed = self.selected.take();
-                self.at_end = false;
-                self.read_faults = self.read_faults.saturating_add(1);
+                self.selection.fail();
             }
         }
         count

@@ -1,5 +1,5 @@
 // A sink over a writer.
-ghost use Rattle.std.specs.Prelude.{◌≡◌, ◌<◌, ◌≤◌, false, true, length, take, None, IfOk, IfSome, OnOk, OnErr, MatchResult, MatchOption};
+ghost use Rattle.std.specs.Prelude.{◌≡◌, ◌<◌, ◌≤◌, false, true, length, take, None, IfOk, OnOk, OnErr, MatchResult};
 ghost use Rattle.std.specs.Io.KnownBytes.{Appends, Keeps};
 ghost use Rattle.outside.specs.Counts.{Counts};
 
@@ -60,13 +60,11 @@ impl<W: Write + Drop> Sink for RealSink<W> {
             (λ _. Keeps self.old.contents self.new.contents) }
     {
         self.flushed = false;
-        match write_some(&mut self.inner, piece) {
-            Some(count) => Ok(count),
-            None => {
-                self.faults = self.faults.saturating_add(1);
-                Err(WriteFailed)
-            }
+        let count = write_some(&mut self.inner, piece);
+        if count.is_err() {
+            self.faults = self.faults.saturating_add(1);
         }
+        count
     }
 
     fn flush(&mut self) -> Result<(), WriteFailed>
@@ -76,44 +74,45 @@ impl<W: Write + Drop> Sink for RealSink<W> {
 
         ensures hands_on { Keeps self.old.contents self.new.contents }
     {
-        self.flushed = flush_all(&mut self.inner);
-        if self.flushed {
-            return Ok(());
+        let flush = flush_all(&mut self.inner);
+        self.flushed = flush.is_ok();
+        if flush.is_err() {
+            self.faults = self.faults.saturating_add(1);
         }
-        self.faults = self.faults.saturating_add(1);
-        Err(WriteFailed)
+        flush
     }
 }
 
-// Writes the front of a piece and answers how many bytes were taken, or None where the writer
-// failed or took nothing of a piece that is not empty.
-fn write_some<W: Write>(inner: &mut W, piece: &[u8]) -> Option<usize>
-    ensures bound { IfSome result (λ n. n ≤ length piece.now) }
-    ensures some { 0 < length piece.now → IfSome result (λ n. 0 < n) }
-    ensures bytes { MatchOption result (Keeps (W.contents inner.old) (W.contents inner.new))
-        (λ n. Appends (W.contents inner.old) (W.contents inner.new) (take n piece.now)) }
+// Writes the front of a piece and answers how many bytes were taken. It fails where the writer
+// fails or takes nothing of a piece that is not empty.
+fn write_some<W: Write>(inner: &mut W, piece: &[u8]) -> Result<usize, WriteFailed>
+    ensures bound { IfOk result (λ n. n ≤ length piece.now) }
+    ensures some { 0 < length piece.now → IfOk result (λ n. 0 < n) }
+    ensures bytes { MatchResult result
+        (λ n. Appends (W.contents inner.old) (W.contents inner.new) (take n piece.now))
+        (λ _. Keeps (W.contents inner.old) (W.contents inner.new)) }
 {
     for _ in 0..MOST_TRIES {
         match inner.write(piece) {
-            Ok(0) if !piece.is_empty() => return None,
-            Ok(count) => return Some(count),
+            Ok(0) if !piece.is_empty() => return Err(WriteFailed),
+            Ok(count) => return Ok(count),
             Err(error) if error.kind() == ErrorKind::Interrupted => {}
-            Err(_) => return None,
+            Err(_) => return Err(WriteFailed),
         }
     }
-    None
+    Err(WriteFailed)
 }
 
-// Flushes, and answers whether that succeeded.
-fn flush_all<W: Write>(inner: &mut W) -> bool
+// Hands on all that the writer holds back.
+fn flush_all<W: Write>(inner: &mut W) -> Result<(), WriteFailed>
     ensures { Keeps (W.contents inner.old) (W.contents inner.new) }
 {
     for _ in 0..MOST_TRIES {
         match inner.flush() {
-            Ok(()) => return true,
+            Ok(()) => return Ok(()),
             Err(error) if error.kind() == ErrorKind::Interrupted => {}
-            Err(_) => return false,
+            Err(_) => return Err(WriteFailed),
         }
     }
-    false
+    Err(WriteFailed)
 }

@@ -40,8 +40,9 @@ pub record IsFirstOther (t : Tree) (i s k l : ℕ) : Type 0 where
   pub other : own_history t i l ≢ own_history t i k
   pub same_before : (m : ℕ) → m < l → t.set m ≡ Some s → own_history t i m ≡ own_history t i k
 
--- Player f.player forgets at the first of the player's sets with nodes of different own histories. It is named as a file numbers it,
--- with its first node and its first node with another own history.
+-- Player f.player forgets at the first of the player's sets with nodes of different own histories.
+-- It is named as a file numbers it, with its first node and its first node with another own
+-- history.
 pub record ForgetsAt (t : GameTree) (f : Forgets) : Type 0 where
   pub number : ℕ
   pub set : InformationSet

@@ -14,7 +14,8 @@ abbrev pub HaveSameEdge : List ℕ → List (Option (ℕ × ℕ)) → ℕ → Ty
 HaveSameEdge members edges n = (j : ℕ) → j < n → edge_of members edges j ≡ edge_of members edges 0
 
 -- a node is the first member with another edge before it
-pub record IsOtherMember (members : List ℕ) (edges : List (Option (ℕ × ℕ))) (node : ℕ) : Type 0 where
+pub record IsOtherMember (members : List ℕ) (edges : List (Option (ℕ × ℕ)))
+    (node : ℕ) : Type 0 where
   pub place : ℕ
   pub within : place < length members
   pub node_is : node ≡ slice_index members place

@@ -9,7 +9,8 @@ use Rattle.pure_payoffs.specs.declared.choices.Choices.{Choices}
 use Rattle.pure_payoffs.specs.declared.choices.Choices.TheVariants.{Actions, Reduced}
 
 -- the places of the sets, and a profile of the tree's reduced strategies
-pub record AreReduced (t : Tree) (places : List ℕ) (strategies : List (List (List ℕ))) (profile : List ℕ) : Type 0 where
+pub record AreReduced (t : Tree) (places : List ℕ) (strategies : List (List (List ℕ)))
+    (profile : List ℕ) : Type 0 where
   pub places_are : ArePlaces t places
   pub strategies_are : AreStrategies t strategies
   pub is_profile : IsProfile (map length strategies) profile

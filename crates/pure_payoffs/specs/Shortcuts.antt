@@ -41,4 +41,5 @@ pub record HasRoom (t : Tree) (entries : Entries) : Type 0 where
 -- the entries of the present round are true
 pub record KeepShortcuts (t : Tree) (choice : ℕ → ℕ) (entries : Entries) : Type 0 where
   pub room : HasRoom t entries
-  pub stand : (k : ℕ) → k < t.size → slice_index entries.rounds.items k ≡ entries.round → StandsFor t choice k (slice_index entries.targets.items k)
+  pub stand : (k : ℕ) → k < t.size → slice_index entries.rounds.items k ≡ entries.round
+      → StandsFor t choice k (slice_index entries.targets.items k)

@@ -9,14 +9,15 @@ use Rattle.frac128.specs.declared.steps.Op.TheVariants.{Add}
 use Rattle.game_theory.specs.Trees.{Tree}
 use Rattle.game_theory.specs.Behaviour.{value, pure}
 
--- The steps with which a child's product with its probability is added to a sum: none where the probability is 0, and else those
--- of the child, the product and the addition.
+-- The steps with which a child's product with its probability is added to a sum: none where the
+-- probability is 0, and else those of the child, the product and the addition.
 abbrev pub branch_steps : ℚ → ℚ → ℚ → List Step → List Step
 branch_steps prob sum v steps =
     if eq_ℚ prob zero_ℚ then [] else steps ++ added_product_steps sum prob v
 
--- the steps at a chance node, where these are the probabilities of its first actions, the values of its children and the steps of
--- these: for each action in order those with which the child's product is added to the sum so far
+-- the steps at a chance node, where these are the probabilities of its first actions, the values of
+-- its children and the steps of these: for each action in order those with which the child's
+-- product is added to the sum so far
 abbrev pub chance_steps : ℕ → (ℕ → ℚ) → (ℕ → ℚ) → (ℕ → List Step) → List Step
 chance_steps zero chances values later = []
 chance_steps (suc a) chances values later =
@@ -36,8 +37,8 @@ steps_after t choice i later k s None =
     (λ a. later (child t k a))
 steps_after t choice i later k s (Some j) = later (child t k (choice s))
 
--- the steps at a node by its set: none at an end, and else those of what comes after it, and last the addition of this to what the
--- outcome pays
+-- the steps at a node by its set: none at an end, and else those of what comes after it, and last
+-- the addition of this to what the outcome pays
 abbrev pub node_steps : Tree → (ℕ → ℕ) → ℕ → (ℕ → List Step) → ℕ → Option ℕ → List Step
 node_steps t choice i later k None = []
 node_steps t choice i later k (Some s) =

@@ -1,6 +1,6 @@
 -- What nodes are worth under a choice at each set, or why that is not computed. Nodes and players
 -- count from 0.
-use Rattle.std.specs.Prelude.{ℕ, List, map}
+use Rattle.std.specs.Prelude.{ℕ, List}
 use Rattle.std.specs.List.{flat_map, range_with_len}
 use Rattle.answers.specs.Answers.{Answer, IsSingle, refused_by}
 use Rattle.lists.specs.Products.{cartesian_product}
@@ -27,10 +27,6 @@ values_fit t choice k =
 abbrev pub payoffs_fit : Tree → (ℕ → ℕ) → Answer PayoffStop (Unit {0})
 payoffs_fit t choice = values_fit t choice 0
 
--- A choice at each set has at most one answer at each node.
-abbrev pub PayoffsAreSingle : Type 0
-PayoffsAreSingle = (t : Tree) (choice : ℕ → ℕ) (k : ℕ) → IsSingle (values_fit t choice k)
-
 -- ---- several nodes
 -- what nodes are worth: node by node, and in each player by player
 abbrev pub node_values : Tree → (ℕ → ℕ) → List ℕ → List ℚ
@@ -56,3 +52,9 @@ abbrev pub all_values_fit : Tree → (ℕ → ℕ) → List ℕ → Answer Value
 all_values_fit t choice nodes =
     refused_by (λ stop. value_stops.Range stop.0.0 stop.0.1 stop.1)
     (all_fit (steps_of t choice) (node_players t nodes))
+
+-- A choice at each set has at most one answer at a node, and at most one at several.
+pub record ValuesAreSingle : Type 0 where
+  pub at_one : (t : Tree) (choice : ℕ → ℕ) (k : ℕ) → IsSingle (values_fit t choice k)
+  pub at_several : (t : Tree) (choice : ℕ → ℕ) (nodes : List ℕ)
+      → IsSingle (all_values_fit t choice nodes)

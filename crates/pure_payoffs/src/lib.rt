@@ -4,15 +4,15 @@
 //! Callers may rely on: `Play::push_payoffs` gives what the choices pay each player, and
 //! `Play::push_all_values` what nodes are worth to each, or the first step in the order of
 //! `specs::Steps` that does not fit; `children_of_all`, the children of each node and no more;
-//! `payoffs_are_single`. `Shortcuts` are a tree's, and nothing else is known of them.
+//! `values_are_single`. `Shortcuts` are a tree's, and nothing else is known of them.
 //! Definitions: `specs::Steps` has the steps of a payoff in order, `Stops` what choices answer,
 //! `Choices` which actions are chosen, `Plays` the game and the choices of a play, `ChildLists` how
 //! long a node's list of children is.
 //! Private words: `specs::Shortcuts` and `Settled`, what is kept from choices to choices.
 //! Lemmas for callers: `proofs::NodeStepLemmas` on the steps of a node, `BranchStepLemmas` on those
 //! of a branch of chance, `ChoiceLemmas` on choices, `PlaceLemmas` on children and strategies.
-//! A change here touches: `reduced_form`, `behaviour_profile`, `enumpure_trees`, `verdicts` and
-//! `two_player_tools`.
+//! A change here touches: `reduced_form`, `behaviour_profile`, `enumpure_trees`, `verdicts`,
+//! `two_player_tools` and `gambit_tools`.
 #![tactic(auto)]
 
 mod children;
@@ -25,7 +25,7 @@ mod stop;
 
 pub use children::children_of_all;
 pub use choices::Choices;
-pub use laws::payoffs_are_single;
+pub use laws::values_are_single;
 pub use payoff::Play;
 pub use shortcuts::Shortcuts;
 pub use stop::{PayoffStop, ValueStop};

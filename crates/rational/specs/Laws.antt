@@ -1,4 +1,5 @@
--- The laws of the rational numbers, as statements. Those of a commutative ring and of an ordered field are the usual axioms; each is proved by a function of src/lib.rt.
+-- The laws of the rational numbers, as statements. Those of a commutative ring and of an ordered
+-- field are the usual axioms; each is proved by a function of src/lib.rt.
 use Rattle.std.specs.Prelude.{ℕ, suc, ◌+◌, ◌*◌, ◌<◌, ◌≡◌, ◌≢◌, ◌⊎◌, ◌↔◌, IsTrue, ℤ, pos, negsuc, neg_ℤ, ◌+ℤ◌, ◌*ℤ◌, ◌≤ℤ◌, ◌<ℤ◌, nat_abs, List}
 use Rattle.std.specs.Int.{◌∣◌}
 use Rattle.std.specs.declared.cmp.Ordering.TheVariants.{Less, Equal, Greater}
@@ -15,18 +16,24 @@ pub record GcdIsGreatest : Type 0 where
   pub divides_second : (a b : ℕ) → gcd a b ∣ b
   pub greatest : (a b d : ℕ) → d ∣ a → d ∣ b → d ∣ gcd a b
 
--- Fractions with positive denominators stand for the rationals: each rational is one in lowest terms, and fractions are compared, added, multiplied, negated and turned over as in school.
+-- Fractions with positive denominators stand for the rationals: each rational is one in lowest
+-- terms, and fractions are compared, added, multiplied, negated and turned over as in school.
 pub record FractionsStandForNumbers : Type 0 where
   pub own_parts : (a : ℚ) → frac a.num a.den ≡ a
   pub lowest : (a : ℚ) → (0 < a.den) × (gcd (nat_abs a.num) a.den ≡ 1)
-  pub equal : (m n : ℤ) (d e : ℕ) → 0 < d → 0 < e → (frac m d ≡ frac n e) ↔ (m *ℤ pos e ≡ n *ℤ pos d)
-  pub at_most : (m n : ℤ) (d e : ℕ) → 0 < d → 0 < e → (frac m d ≤ℚ frac n e) ↔ ((m *ℤ pos e) ≤ℤ (n *ℤ pos d))
-  pub below : (m n : ℤ) (d e : ℕ) → 0 < d → 0 < e → (frac m d <ℚ frac n e) ↔ ((m *ℤ pos e) <ℤ (n *ℤ pos d))
-  pub sum : (m n : ℤ) (d e : ℕ) → 0 < d → 0 < e → frac m d +ℚ frac n e ≡ frac ((m *ℤ pos e) +ℤ (n *ℤ pos d)) (d * e)
+  pub equal : (m n : ℤ) (d e : ℕ) → 0 < d → 0 < e
+      → (frac m d ≡ frac n e) ↔ (m *ℤ pos e ≡ n *ℤ pos d)
+  pub at_most : (m n : ℤ) (d e : ℕ) → 0 < d → 0 < e
+      → (frac m d ≤ℚ frac n e) ↔ ((m *ℤ pos e) ≤ℤ (n *ℤ pos d))
+  pub below : (m n : ℤ) (d e : ℕ) → 0 < d → 0 < e
+      → (frac m d <ℚ frac n e) ↔ ((m *ℤ pos e) <ℤ (n *ℤ pos d))
+  pub sum : (m n : ℤ) (d e : ℕ) → 0 < d → 0 < e
+      → frac m d +ℚ frac n e ≡ frac ((m *ℤ pos e) +ℤ (n *ℤ pos d)) (d * e)
   pub product : (m n : ℤ) (d e : ℕ) → 0 < d → 0 < e → frac m d *ℚ frac n e ≡ frac (m *ℤ n) (d * e)
   pub negation : (n : ℤ) (d : ℕ) → 0 < d → neg_ℚ (frac n d) ≡ frac (neg_ℤ n) d
   pub inverse : (n d : ℕ) → 0 < n → 0 < d → inv_ℚ (frac (pos n) d) ≡ frac (pos d) n
-  pub inverse_of_negative : (n d : ℕ) → 0 < n → 0 < d → inv_ℚ (frac (neg_ℤ (pos n)) d) ≡ frac (neg_ℤ (pos d)) n
+  pub inverse_of_negative : (n d : ℕ) → 0 < n → 0 < d
+      → inv_ℚ (frac (neg_ℤ (pos n)) d) ≡ frac (neg_ℤ (pos d)) n
 
 -- The eight laws of a commutative ring.
 pub record IsCommutativeRing : Type 0 where
@@ -39,7 +46,8 @@ pub record IsCommutativeRing : Type 0 where
   pub mul-one : (a : ℚ) → a *ℚ one_ℚ ≡ a
   pub mul-add : (a b c : ℚ) → a *ℚ (b +ℚ c) ≡ (a *ℚ b) +ℚ (a *ℚ c)
 
--- The laws that make the ring a field, and its order one that sums and products keep. The inverse of 0 is 0.
+-- The laws that make the ring a field, and its order one that sums and products keep. The inverse
+-- of 0 is 0.
 pub record IsOrderedField : Type 0 where
   pub zero_below_one : zero_ℚ <ℚ one_ℚ
   pub mul-inv : (a : ℚ) → a ≢ zero_ℚ → a *ℚ inv_ℚ a ≡ one_ℚ
@@ -51,8 +59,8 @@ pub record IsOrderedField : Type 0 where
   pub le-add_left : (c a b : ℚ) → a ≤ℚ b → (c +ℚ a) ≤ℚ (c +ℚ b)
   pub nonneg-mul : (a b : ℚ) → zero_ℚ ≤ℚ a → zero_ℚ ≤ℚ b → zero_ℚ ≤ℚ (a *ℚ b)
 
--- Order and equality are decidable, and the tests that compute decide them; what code answers of order
--- and sign is so.
+-- Order and equality are decidable, and the tests that compute decide them; what code answers of
+-- order and sign is so.
 pub record OrderIsDecidable : Type 0 where
   pub at_most : (a b : ℚ) → (a ≤ℚ b) ⊎ (b <ℚ a)
   pub never_both : (a b : ℚ) → a ≤ℚ b → ¬ (b <ℚ a)
@@ -84,12 +92,17 @@ pub record SumsAddUp : Type 0 where
   pub next : (n : ℕ) (f : ℕ → ℚ) → sum_to (suc n) f ≡ sum_to n f +ℚ f n
   pub sum : (n : ℕ) (f g : ℕ → ℚ) → sum_to n (λ i. f i +ℚ g i) ≡ sum_to n f +ℚ sum_to n g
   pub multiple : (n : ℕ) (c : ℚ) (f : ℕ → ℚ) → sum_to n (λ i. c *ℚ f i) ≡ c *ℚ sum_to n f
-  pub exchange : (n m : ℕ) (f : ℕ → ℕ → ℚ) → sum_to n (λ i. sum_to m (λ j. f i j)) ≡ sum_to m (λ j. sum_to n (λ i. f i j))
+  pub exchange : (n m : ℕ) (f : ℕ → ℕ → ℚ)
+      → sum_to n (λ i. sum_to m (λ j. f i j)) ≡ sum_to m (λ j. sum_to n (λ i. f i j))
   pub append : (m n : ℕ) (f : ℕ → ℚ) → sum_to (m + n) f ≡ sum_to m f +ℚ sum_to n (λ i. f (m + i))
   pub at_most : (n : ℕ) (f g : ℕ → ℚ) → ((i : ℕ) → i < n → f i ≤ℚ g i) → sum_to n f ≤ℚ sum_to n g
-  pub each_zero : (n : ℕ) (f : ℕ → ℚ) → ((i : ℕ) → i < n → zero_ℚ ≤ℚ f i) → sum_to n f ≡ zero_ℚ → (i : ℕ) → i < n → f i ≡ zero_ℚ
+  pub each_zero : (n : ℕ) (f : ℕ → ℚ) → ((i : ℕ) → i < n → zero_ℚ ≤ℚ f i) → sum_to n f ≡ zero_ℚ
+      → (i : ℕ) → i < n → f i ≡ zero_ℚ
 
--- A mean of values is at most the greatest, and reaches it exactly where it weighs greatest values alone.
+-- A mean of values is at most the greatest, and reaches it exactly where it weighs greatest values
+-- alone.
 pub record MeansAreAtMost : Type 0 where
-  pub at_most : (n : ℕ) (x v : ℕ → ℚ) (m : ℚ) → IsDistribution n x → ((i : ℕ) → i < n → v i ≤ℚ m) → sum_to n (λ i. x i *ℚ v i) ≤ℚ m
-  pub reaches : (n : ℕ) (x v : ℕ → ℚ) (m : ℚ) → IsDistribution n x → ((i : ℕ) → i < n → v i ≤ℚ m) → (sum_to n (λ i. x i *ℚ v i) ≡ m) ↔ ((i : ℕ) → i < n → (x i ≡ zero_ℚ) ⊎ (v i ≡ m))
+  pub at_most : (n : ℕ) (x v : ℕ → ℚ) (m : ℚ) → IsDistribution n x → ((i : ℕ) → i < n → v i ≤ℚ m)
+      → sum_to n (λ i. x i *ℚ v i) ≤ℚ m
+  pub reaches : (n : ℕ) (x v : ℕ → ℚ) (m : ℚ) → IsDistribution n x → ((i : ℕ) → i < n → v i ≤ℚ m)
+      → (sum_to n (λ i. x i *ℚ v i) ≡ m) ↔ ((i : ℕ) → i < n → (x i ≡ zero_ℚ) ⊎ (v i ≡ m))

@@ -20,8 +20,11 @@ pos_of_factor x g n e = grind arith
 
 -- the denominator that is left in lowest terms is positive
 pub den-pos : (a d : ℕ) → 0 < suc d / gcd a (suc d)
-den-pos a d = pos_of_factor (suc d / gcd a (suc d)) (gcd a (suc d)) d (div-mul_cancel (gcd a (suc d)) (gcd-is a (suc d)).1)
+den-pos a d =
+    pos_of_factor (suc d / gcd a (suc d)) (gcd a (suc d)) d
+    (div-mul_cancel (gcd a (suc d)) (gcd-is a (suc d)).1)
 
 -- the parts that are left when the greatest common divisor is divided away share no divisor
-pub div_ℤ-lowest : (n : ℤ) (d : ℕ) → gcd (nat_abs (div_ℤ n (gcd (nat_abs n) (suc d)))) (suc d / gcd (nat_abs n) (suc d)) ≡ 1
+pub div_ℤ-lowest : (n : ℤ) (d : ℕ)
+    → gcd (nat_abs (div_ℤ n (gcd (nat_abs n) (suc d)))) (suc d / gcd (nat_abs n) (suc d)) ≡ 1
 div_ℤ-lowest n d = rw nat_abs-div_ℤ (gcd-parts (nat_abs n) (suc d) (zero-lt-suc _))

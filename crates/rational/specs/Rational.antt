@@ -1,4 +1,5 @@
--- The rational numbers: a numerator over a positive denominator, in lowest terms, so that equal numbers are one record.
+-- The rational numbers: a numerator over a positive denominator, in lowest terms, so that equal
+-- numbers are one record.
 use Rattle.std.specs.Prelude.{ℕ, zero, suc, ◌*◌, ℤ, pos, negsuc, ◌+ℤ◌, ◌*ℤ◌, neg_ℤ, nat_abs, ◌≤ℤ◌, ◌<ℤ◌, ◌/◌, Bool, T, nat_lt, nat_eq, ◌&&◌}
 use Rattle.std.proofs.Common.{rules, arith}
 use Rattle.rational.specs.Gcd.{gcd, div_ℤ}
@@ -8,7 +9,8 @@ use Rattle.rational.specs.LowestTerms.{den-pos, div_ℤ-lowest}
 unfoldable pub is_lowest : ℤ → ℕ → Bool
 is_lowest n d = nat_lt 0 d && nat_eq (gcd (nat_abs n) d) 1
 
--- a rational: a numerator over a denominator, which pass the test of lowest terms, so that two rationals with equal parts are one
+-- a rational: a numerator over a denominator, which pass the test of lowest terms, so that two
+-- rationals with equal parts are one
 pub record ℚ : Type 0 where
   pub num : ℤ
   pub den : ℕ
@@ -20,7 +22,8 @@ unfolding is_lowest gcd
 IsLowest-zero = tt
 
 -- what `frac` divides down to is in lowest terms
-pub IsLowest-frac : (n : ℤ) (d : ℕ) → T (is_lowest (div_ℤ n (gcd (nat_abs n) (suc d))) (suc d / gcd (nat_abs n) (suc d)))
+pub IsLowest-frac : (n : ℤ) (d : ℕ)
+    → T (is_lowest (div_ℤ n (gcd (nat_abs n) (suc d))) (suc d / gcd (nat_abs n) (suc d)))
 unfolding is_lowest
 IsLowest-frac n d = search (rules, arith, den-pos (nat_abs n) d, div_ℤ-lowest n d)
 
@@ -28,7 +31,11 @@ IsLowest-frac n d = search (rules, arith, den-pos (nat_abs n) d, div_ℤ-lowest 
 unfoldable pub frac : ℤ → ℕ → ℚ
 frac n zero = record { num = pos 0; den = 1; ok = IsLowest-zero }
 frac n (suc d) =
-    record { num = div_ℤ n (gcd (nat_abs n) (suc d)); den = suc d / gcd (nat_abs n) (suc d); ok = IsLowest-frac n d }
+    record {
+      num = div_ℤ n (gcd (nat_abs n) (suc d));
+      den = suc d / gcd (nat_abs n) (suc d);
+      ok = IsLowest-frac n d;
+    }
 
 infixl 60 ◌+ℚ◌ ◌-ℚ◌
 infixl 70 ◌*ℚ◌

@@ -1,4 +1,5 @@
--- The payoffs of a reduced form as they are computed, profile after profile and in each player after player.
+-- The payoffs of a reduced form as they are computed, profile after profile and in each player
+-- after player.
 use Rattle.std.specs.Prelude.{ℕ, ◌+◌, ◌*◌, ◌<◌, ◌≡◌, List, length}
 use Rattle.rational.specs.Rational.{ℚ}
 use Rattle.rational.specs.Sum.{entry_at}

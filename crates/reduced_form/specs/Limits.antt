@@ -17,7 +17,8 @@ most_choices = 67108864
 abbrev pub payoff_count : Tree → List (List (List ℕ)) → ℕ
 payoff_count t strategies = t.players * profile_count (map length strategies)
 
--- how many choices these numbers of strategies give: strategies times own sets, added over the players
+-- how many choices these numbers of strategies give: strategies times own sets, added over the
+-- players
 abbrev pub choices_of : Tree → List ℕ → ℕ
 choices_of t counts = sum_by (λ p. p.1 * length (own_sets t p.0)) (enumerate_from 0 counts)
 

@@ -9,7 +9,7 @@
 //! Lemmas for callers: `proofs::FormAnswerLemmas` on what a tree answers, `FormLaws` and
 //! `FormCountLemmas` on the table, `OneFormLaws`.
 //! A change here touches: `behaviour_profile`, `enumpure_trees`, `two_player_tools`,
-//! `gambit_tools`.
+//! `refusals`, `gambit_tools`.
 #![tactic(auto)]
 
 mod cells;

@@ -15,7 +15,8 @@ use Rattle.refusals.specs.declared.site.Site.TheVariants as site
 use Rattle.refusals.specs.declared.refusal.Refusal.{Refusal}
 use Rattle.refusals.specs.declared.refusal.Refusal.TheVariants as refusal
 
--- the status of a refusal: 1 for the game, 2 for the words, 3 for an input, 4 for the output, 5 for want of memory
+-- the status of a refusal: 1 for the game, 2 for the words, 3 for an input, 4 for the output, 5 for
+-- want of memory
 abbrev pub status_of : Refusal → ℕ
 status_of (refusal.Usage u) = 2
 status_of refusal.OpenFault = 3
@@ -47,10 +48,11 @@ usage_text usage.NoTool = codes "no tool"
 usage_text usage.UnknownTool = codes "unknown tool"
 usage_text usage.Words = codes "words not understood"
 
--- where a step stands; profiles, choices, nodes, players, rows of a start and polytopes are counted from 1,
--- as lines are everywhere, levels and sequences from 0: sequence 0 is the empty one
+-- where a step stands; profiles, choices, nodes, players, rows of a start and polytopes are counted
+-- from 1, as lines are everywhere, levels and sequences from 0: sequence 0 is the empty one
 abbrev pub site_text : Site → List ℕ
-site_text (site.Cell profile player) = codes "profile " ++ decimal (profile + 1) ++ codes " player " ++ decimal (player + 1)
+site_text (site.Cell profile player) =
+    codes "profile " ++ decimal (profile + 1) ++ codes " player " ++ decimal (player + 1)
 site_text (site.Choice choice node player) =
     codes "choice " ++ decimal (choice + 1) ++ codes " node " ++ decimal (node + 1)
     ++ codes " player " ++ decimal (player + 1)
@@ -95,9 +97,11 @@ refusal_text (refusal.Efg fault) =
 refusal_text (refusal.NotTwoPlayers count) = decimal count ++ codes " players, not two"
 refusal_text (refusal.Forgets f) =
     codes "player " ++ decimal (f.player + 1) ++ codes " forgets at set " ++ decimal f.set
-    ++ codes ", nodes " ++ decimal (f.first_node + 1) ++ codes " and " ++ decimal (f.second_node + 1)
+    ++ codes ", nodes " ++ decimal (f.first_node + 1) ++ codes " and "
+    ++ decimal (f.second_node + 1)
 refusal_text (refusal.NotConstant sums) =
-    codes "not constant sum: " ++ decimal (sums.first + 1) ++ codes " has " ++ number_text sums.first_sum
+    codes "not constant sum: " ++ decimal (sums.first + 1) ++ codes " has "
+    ++ number_text sums.first_sum
     ++ codes ", " ++ decimal (sums.second + 1) ++ codes " has " ++ number_text sums.second_sum
 refusal_text (refusal.TooLarge passed) =
     codes "too large: " ++ decimal passed.count ++ codes " " ++ what_text passed.what

@@ -4,6 +4,7 @@ use Rattle.answers.specs.Answered.{IsAnswered}
 use Rattle.game_theory.specs.Profiles.{Game}
 use Rattle.reply_polytope.specs.Stops.{polytopes_in}
 
--- A game, each of whose players has a strategy, has an answer: a pair of systems, or why it has none.
+-- A game, each of whose players has a strategy, has an answer: a pair of systems, or why it has
+-- none.
 abbrev pub PolytopesAreAnswered : Type 0
 PolytopesAreAnswered = (g : Game) → All (λ n. 0 < n) g.strategies → IsAnswered (polytopes_in g)

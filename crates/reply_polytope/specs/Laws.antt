@@ -1,4 +1,5 @@
--- What the points of a game's two systems are, as a statement. It is proved by a function of src/laws.rt.
+-- What the points of a game's two systems are, as a statement. It is proved by a function of
+-- src/laws.rt.
 -- Source: Avis et al. 2010.
 use Rattle.std.specs.Prelude.{ℕ, suc, ◌+◌}
 use Rattle.rational.specs.Rational.{ℚ}
@@ -11,9 +12,9 @@ use Rattle.extreme_equilibria.specs.Polytopes.{IsInPolytope}
 use Rattle.lex_tableau.specs.Starts.{LinearSystem, system_of}
 use Rattle.reply_polytope.specs.Polytopes.{ArePolytopes}
 
--- The solutions without negative entries of a game's two systems are the points of the best-response
--- polytopes of its shifted payoffs: of the first system, by the entries of the first player's
--- strategies, and of the second, by those of the second player's.
+-- The solutions without negative entries of a game's two systems are the points of the
+-- best-response polytopes of its shifted payoffs: of the first system, by the entries of the first
+-- player's strategies, and of the second, by those of the second player's.
 pub record SystemsAreThePolytopes : Type 0 where
   pub first : (g : Game) (least least' : ℚ) (one two : LinearSystem) (x : ℕ → ℚ)
       → (p : ArePolytopes g least least' one two) → IsFeasible (system_of one) x

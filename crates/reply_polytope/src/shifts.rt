@@ -23,9 +23,7 @@ fn least_payoff(table: &Table, player: usize, profiles: usize) -> Frac
     let mut least = table.payoff_at(0, player);
     for profile in 1..profiles {
         let other = table.payoff_at(profile, player);
-        if other.is_less(least) {
-            least = other;
-        }
+        least = least.min(other);
     }
     least
 }

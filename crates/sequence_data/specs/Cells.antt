@@ -13,17 +13,24 @@ placed_numbers f leaves = map (λ l. (l.row, l.column, f l)) leaves
 abbrev pub total : (Leaf → ℚ) → List Leaf → ℕ → ℕ → ℚ
 total f leaves r q = listed_at (placed_numbers f leaves) r q
 
--- chance times the payoff of player 0
+-- chance times the payoff of the first player
 abbrev pub chance_one : Leaf → ℚ
 chance_one l = l.chance *ℚ l.one
 
--- chance times the payoff of player 1
+-- chance times the payoff of the second player
 abbrev pub chance_two : Leaf → ℚ
 chance_two l = l.chance *ℚ l.two
 
 -- the cell at row r and column q
 abbrev pub cell_at : List Leaf → ℕ → ℕ → Cell
-cell_at leaves r q = record { row = r; column = q; weight = total (λ l. l.chance) leaves r q; one = total chance_one leaves r q; two = total chance_two leaves r q }
+cell_at leaves r q =
+    record {
+      row = r;
+      column = q;
+      weight = total (λ l. l.chance) leaves r q;
+      one = total chance_one leaves r q;
+      two = total chance_two leaves r q;
+    }
 
 -- cell c comes before cell d: rows in order, and in each the columns
 abbrev pub IsBefore : Cell → Cell → Type 0
@@ -31,7 +38,8 @@ IsBefore c d = (c.row < d.row) ⊎ ((c.row ≡ d.row) × (c.column < d.column))
 
 -- in ascending order, each once
 abbrev pub AreCellsInOrder : List Cell → Type 0
-AreCellsInOrder cells = (i j : ℕ) (c d : Cell) → i < j → slice_get cells i ≡ Some c → slice_get cells j ≡ Some d → IsBefore c d
+AreCellsInOrder cells = (i j : ℕ) (c d : Cell) → i < j → slice_get cells i ≡ Some c
+    → slice_get cells j ≡ Some d → IsBefore c d
 
 -- a leaf stands at a cell's row and column
 abbrev pub IsAt : Cell → Leaf → Type 0

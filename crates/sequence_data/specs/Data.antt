@@ -1,10 +1,8 @@
 -- A sequence form as contracts see it: lists of sets, leaves and cells. Source: von Stengel 1996.
-use Rattle.std.specs.Prelude.{ℕ, zero, suc, ◌<◌, ◌≡◌, List, length, map, All, refl}
-use Rattle.std.specs.Coded.{Coded, code_by, coded×, coded_ℕ, coded_list}
+use Rattle.std.specs.Prelude.{ℕ, zero, suc, ◌<◌, ◌≡◌, List, length, map, All}
 use Rattle.std.specs.List.{range_with_len}
 use Rattle.answers.specs.Answers.{Answer, such_that, ◌>>◌}
 use Rattle.rational.specs.Rational.{ℚ, ◌≤ℚ◌, zero_ℚ}
-use Rattle.rational.proofs.CodeLemmas.{code_ℚ}
 use Rattle.sequence_forms.specs.Forms.{SequenceForm}
 use Rattle.sequence_forms.specs.Lists.{FormLists, Entry, side_of_lists, form_of_lists}
 use Rattle.sequence_forms.specs.Sides.{Side, first, sequences, IsOrderedSide}
@@ -21,7 +19,8 @@ pub record SideData : Type 0 where
   pub sequences : ℕ
   pub sets : List SetRow
 
--- both players' sides, the leaves, the cells, the greatest payoffs of both players and the least one of player 0
+-- both players' sides, the leaves, the cells, the greatest payoffs of both players and the least
+-- one of the first player
 pub record FormData : Type 0 where
   pub first : SideData
   pub second : SideData
@@ -49,7 +48,9 @@ lists_of f = record {
   column_befores = map (λ r. r.before) f.second.sets;
   column_counts = map (λ r. r.count) f.second.sets;
   weights = map (λ c. let entry : Entry = (c.row, c.column, c.weight) in entry) f.cells;
-  pays = λ i. map (λ c. let entry : Entry = (c.row, c.column, of_player i c.one c.two) in entry) f.cells;
+  pays =
+      λ i. map (λ c. let entry : Entry = (c.row, c.column, of_player i c.one c.two) in entry)
+      f.cells;
 }
 
 -- the sequence form with these lists
@@ -57,9 +58,11 @@ abbrev pub form : FormData → SequenceForm
 form f = form_of_lists (lists_of f)
 
 -- ---- what each form keeps
--- the sets' first sequences and the number of sequences are those of the side, and the sets are in order
+-- the sets' first sequences and the number of sequences are those of the side, and the sets are in
+-- order
 pub record IsSideData (s : SideData) : Type 0 where
-  pub firsts_are : map (λ r. r.first) s.sets ≡ map (first (side_of s)) (range_with_len 0 (length s.sets))
+  pub firsts_are : map (λ r. r.first) s.sets
+      ≡ map (first (side_of s)) (range_with_len 0 (length s.sets))
   pub sequences_are : s.sequences ≡ sequences (side_of s)
   pub ordered : IsOrderedSide (side_of s)
 
@@ -95,32 +98,3 @@ pub record IsFormOf (first second : SideData) (leaves : List Leaf) (f : FormData
 -- this form, whose steps all fit; or the first that does not
 abbrev pub form_of_leaves : SideData → SideData → List Leaf → Answer SeqStop FormData
 form_of_leaves first second leaves = gathering_in leaves >> such_that (IsFormOf first second leaves)
-
--- ---- how they are stored
--- a set is stored as its numbers
-abbrev pub code_of_row : Coded SetRow
-code_of_row =
-    code_by (ℕ × (ℕ × ℕ)) (coded× coded_ℕ (coded× coded_ℕ coded_ℕ)) (λ r. (r.before, (r.first, r.count))) (λ p. record { before = p.0; first = p.1.0; count = p.1.1 }) (λ _. refl)
-
--- a side as its number of sequences and its sets
-abbrev pub code_of_side : Coded SideData
-code_of_side = code_by (ℕ × List SetRow) (coded× coded_ℕ (coded_list code_of_row)) (λ s. (s.sequences, s.sets)) (λ p. record { sequences = p.0; sets = p.1 }) (λ _. refl)
-
--- a leaf as its numbers
-abbrev pub code_of_leaf : Coded Leaf
-code_of_leaf =
-    code_by (ℕ × (ℕ × (ℕ × (ℚ × (ℚ × ℚ))))) (coded× coded_ℕ (coded× coded_ℕ (coded× coded_ℕ (coded× code_ℚ (coded× code_ℚ code_ℚ)))))
-    (λ l. (l.place, (l.row, (l.column, (l.chance, (l.one, l.two)))))) (λ p. record { place = p.0; row = p.1.0; column = p.1.1.0; chance = p.1.1.1.0; one = p.1.1.1.1.0; two = p.1.1.1.1.1 }) (λ _. refl)
-
--- a cell as its numbers
-abbrev pub code_of_cell : Coded Cell
-code_of_cell =
-    code_by (ℕ × (ℕ × (ℚ × (ℚ × ℚ)))) (coded× coded_ℕ (coded× coded_ℕ (coded× code_ℚ (coded× code_ℚ code_ℚ)))) (λ c. (c.row, (c.column, (c.weight, (c.one, c.two)))))
-    (λ p. record { row = p.0; column = p.1.0; weight = p.1.1.0; one = p.1.1.1.0; two = p.1.1.1.1 }) (λ _. refl)
-
--- a form as its parts
-abbrev pub code_of_form : Coded FormData
-code_of_form =
-    code_by (SideData × (SideData × (List Leaf × (List Cell × (ℚ × (ℚ × ℚ)))))) (coded× code_of_side (coded× code_of_side (coded× (coded_list code_of_leaf) (coded× (coded_list code_of_cell) (coded× code_ℚ (coded× code_ℚ code_ℚ))))))
-    (λ f. (f.first, (f.second, (f.leaves, (f.cells, (f.greatest_one, (f.greatest_two, f.least_one)))))))
-    (λ p. record { first = p.0; second = p.1.0; leaves = p.1.1.0; cells = p.1.1.1.0; greatest_one = p.1.1.1.1.0; greatest_two = p.1.1.1.1.1.0; least_one = p.1.1.1.1.1.1 }) (λ _. refl)

@@ -22,4 +22,11 @@ pub record ArePlaces (columns : ℕ) (leaves : List Leaf) (places : List ℕ) : 
 
 -- a cell with one more leaf
 abbrev pub added_cell : Cell → Leaf → Cell
-added_cell c l = record { row = c.row; column = c.column; weight = c.weight +ℚ l.chance; one = c.one +ℚ (l.chance *ℚ l.one); two = c.two +ℚ (l.chance *ℚ l.two) }
+added_cell c l =
+    record {
+      row = c.row;
+      column = c.column;
+      weight = c.weight +ℚ l.chance;
+      one = c.one +ℚ (l.chance *ℚ l.one);
+      two = c.two +ℚ (l.chance *ℚ l.two);
+    }

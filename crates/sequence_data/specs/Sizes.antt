@@ -1,5 +1,5 @@
--- The sizes of a sequence form, of its linear program and of its complementarity problem. Source: Koller, Megiddo and
--- von Stengel 1996.
+-- The sizes of a sequence form, of its linear program and of its complementarity problem. Source:
+-- Koller, Megiddo and von Stengel 1996.
 use Rattle.std.specs.Prelude.{ℕ, suc, ◌+◌, ◌≤◌, ◌^◌, length}
 use Rattle.sequence_forms.specs.Sides.{Side, sequences}
 use Rattle.sequence_data.specs.Data.{FormData, SideData, side_of}
@@ -7,11 +7,23 @@ use Rattle.sequence_data.specs.declared.sizes.Counts.{Counts}
 
 -- the sizes of two sides
 abbrev pub sizes_of : Side → Side → Counts
-sizes_of rows columns = record { sequences_one = sequences rows; sequences_two = sequences columns; sets_one = rows.sets; sets_two = columns.sets }
+sizes_of rows columns =
+    record {
+      sequences_one = sequences rows;
+      sequences_two = sequences columns;
+      sets_one = rows.sets;
+      sets_two = columns.sets;
+    }
 
 -- those of two sides as they are stored
-abbrev pub counts_of : SideData → SideData → Counts
-counts_of first second = record { sequences_one = first.sequences; sequences_two = second.sequences; sets_one = length first.sets; sets_two = length second.sets }
+abbrev pub stored_sizes : SideData → SideData → Counts
+stored_sizes first second =
+    record {
+      sequences_one = first.sequences;
+      sequences_two = second.sequences;
+      sets_one = length first.sets;
+      sets_two = length second.sets;
+    }
 
 -- the sizes of a form
 abbrev pub form_sizes : FormData → Counts
@@ -25,12 +37,13 @@ pub record AreFew (c : Counts) : Type 0 where
   pub sets_two : c.sets_two ≤ 2 ^ 60
 
 -- ---- the linear program
--- its constraints: the rows of player 0's plans, which are one more than there are sets, and a row for each sequence
--- of player 1
+-- its constraints: the rows of the first player's plans, which are one more than there are sets,
+-- and a row for each sequence of the second player
 abbrev pub program_rows : Counts → ℕ
 program_rows c = suc c.sets_one + c.sequences_two
 
--- its columns: one for each sequence of player 0 and for each row of player 1's plans
+-- its columns: one for each sequence of the first player and for each row of the second player's
+-- plans
 abbrev pub program_columns : Counts → ℕ
 program_columns c = c.sequences_one + suc c.sets_two
 

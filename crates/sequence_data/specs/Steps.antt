@@ -16,7 +16,8 @@ abbrev pub fit_at : ℕ → List Step → Answer SeqStop (Unit {0})
 fit_at place steps = refused_by (stops.Range place) (all_steps_fit steps)
 
 -- ---- into the cells
--- a leaf goes into its cell: its chance, and its chance times each payoff, are added to the cell's sums so far
+-- a leaf goes into its cell: its chance, and its chance times each payoff, are added to the cell's
+-- sums so far
 abbrev pub added_steps : Cell → Leaf → List Step
 added_steps c l =
     step_of Add c.weight l.chance

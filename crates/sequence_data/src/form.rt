@@ -21,7 +21,8 @@ pub struct Side {
 }
 
 impl Model for Side {
-    ghost use Rattle.sequence_data.specs.Data.{SideData, code_of_side};
+    ghost use Rattle.sequence_data.specs.Data.{SideData};
+    ghost use Rattle.sequence_data.specs.FormCodes.{code_of_side};
 
     ghost Value = { SideData };
 
@@ -78,7 +79,8 @@ pub struct SeqForm {
 }
 
 impl Model for SeqForm {
-    ghost use Rattle.sequence_data.specs.Data.{FormData, IsFormData, code_of_form};
+    ghost use Rattle.sequence_data.specs.Data.{FormData, IsFormData};
+    ghost use Rattle.sequence_data.specs.FormCodes.{code_of_form};
 
     ghost Value = { FormData };
 
@@ -136,7 +138,7 @@ impl SeqForm {
         })
     }
 
-    /// The side of player one.
+    /// The side of the first player.
     pub fn first(&self) -> &Side
         ensures side { result.now ≡ self.now.first }
         ensures valid { IsFormData self.now }
@@ -144,7 +146,7 @@ impl SeqForm {
         &self.first
     }
 
-    /// The side of player two.
+    /// The side of the second player.
     pub fn second(&self) -> &Side
         ensures side { result.now ≡ self.now.second }
         ensures valid { IsFormData self.now }
@@ -168,21 +170,21 @@ impl SeqForm {
         self.cells.as_slice()
     }
 
-    /// The greatest payoff of player one at a leaf.
+    /// The greatest payoff of the first player at a leaf.
     pub fn greatest_one(&self) -> Frac
         ensures { result ≡ self.now.greatest_one }
     {
         self.extremes.greatest_one
     }
 
-    /// The greatest payoff of player two at a leaf.
+    /// The greatest payoff of the second player at a leaf.
     pub fn greatest_two(&self) -> Frac
         ensures { result ≡ self.now.greatest_two }
     {
         self.extremes.greatest_two
     }
 
-    /// The least payoff of player one at a leaf.
+    /// The least payoff of the first player at a leaf.
     pub fn least_one(&self) -> Frac
         ensures { result ≡ self.now.least_one }
     {

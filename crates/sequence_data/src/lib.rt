@@ -3,13 +3,14 @@
 //!
 //! Callers may rely on: `SeqForm::of_leaves` gives the cells that are the sums of the leaves, or
 //! the first step that does not fit; `gains_are_not_negative` and `costs_are_not_negative`;
-//! `set_at` and `set_entry` give a set's row and its entries, and `dense` the matrix of the numbers
-//! of cells; `rows` and `program_size` count what a form's problems have.
+//! `Side::own_set` and `Side::set_entry` give a set's row and its entries, and `dense` the matrix
+//! of the numbers of cells; `rows` and `program_size` count what a form's problems have.
 //! Definitions: `specs::Data` says what each form keeps and which sequence form it stands for,
 //! `Cells` what the cells are, `Steps` whether the steps of leaves fit, `Matrices` numbers of cells
 //! as a matrix, `Sizes` the sizes of a form and of its problems, `PlanPairs` two plans;
 //! `sequence_forms` has the rows of plans.
-//! Private words: `specs::Gathered`, cells while they are summed up.
+//! Private words: `specs::Gathered`, cells while they are summed up, and `FormCodes`, how a form is
+//! stored.
 //! Lemmas for callers: `proofs::GainLemmas` on gains and costs, `CellSumLemmas` on cells,
 //! `StepStageLemmas` on steps, `OneFormLemmas`, that there is at most one form over leaves.
 //! A change here touches: `sequence_form`, `zero_sum_lp`, `lemke_pivot` and
@@ -40,7 +41,6 @@ mod types;
 pub use form::{SeqForm, Side};
 pub use matrix::dense;
 pub use plans::Plans;
-pub use set_rows::{set_at, set_entry};
 pub use sizes::{Counts, program_size, rows, side_counts};
 pub use steps::{product, sum};
 pub use stop::SeqStop;

@@ -5,14 +5,14 @@ ghost use Rattle.rational.specs.Extremes.{IsGreatest, IsLeast};
 use crate::types::Leaf;
 use frac128::Frac;
 
-/// The greatest payoffs of both players, and the least of player one.
+/// The greatest payoffs of both players, and the least of the first player.
 #[derive(Clone, Copy, Debug)]
 pub(crate) struct Extremes {
-    /// The greatest of player one.
+    /// The greatest of the first player.
     pub greatest_one: Frac,
-    /// The greatest of player two.
+    /// The greatest of the second player.
     pub greatest_two: Frac,
-    /// The least of player one.
+    /// The least of the first player.
     pub least_one: Frac,
 }
 

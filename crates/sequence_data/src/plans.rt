@@ -22,7 +22,7 @@ impl Model for Plans {
 impl Plans {
     ghost use Rattle.std.specs.Prelude.{◌≡◌};
 
-    /// The plans with these weights of player one's and of player two's sequences.
+    /// The plans with these weights of the first player's and of the second player's sequences.
     pub fn new(one: Vec<Frac>, two: Vec<Frac>) -> Plans
         ensures { result ≡ record { one = one.items; two = two.items } }
     {

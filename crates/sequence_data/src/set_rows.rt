@@ -8,42 +8,44 @@ use crate::form::Side;
 use crate::types::SetRow;
 use frac128::Frac;
 
-/// A player's set, counted from 0.
-pub fn set_at(side: &Side, place: usize) -> SetRow
-    requires side { IsSideData side.now }
-    requires place { place < length side.now.sets }
-    ensures before { result.before ≡ (side_of side.now).before place }
-    ensures first { result.first ≡ first (side_of side.now) place }
-    ensures count { result.count ≡ (side_of side.now).count place }
-{
-    side.sets()[place]
-}
+impl Side {
+    /// The player's own set with a number, counted from 0.
+    pub fn own_set(&self, place: usize) -> SetRow
+        requires side { IsSideData self.now }
+        requires place { place < length self.now.sets }
+        ensures before { result.before ≡ (side_of self.now).before place }
+        ensures first { result.first ≡ first (side_of self.now) place }
+        ensures count { result.count ≡ (side_of self.now).count place }
+    {
+        self.sets()[place]
+    }
 
-/// The entry at a sequence of the row of the whole game (0), which says that the empty sequence has
-/// weight 1, or of set `row - 1`, which says that the weights after its actions less the weight
-/// before it are 0.
-pub fn set_entry(side: &Side, row: usize, sequence: usize) -> Frac
-    requires side { IsSideData side.now }
-    requires row { row ≤ length side.now.sets }
-    requires sequence { sequence < sequences (side_of side.now) }
-    ensures { result ≡ set_row (side_of side.now) row sequence }
-{
-    if row == 0 {
-        if sequence == 0 {
-            return Frac::one();
+    /// The entry at a sequence of the row of the whole game (0), which says that the empty sequence
+    /// has weight 1, or of set `row - 1`, which says that the weights after its actions less the
+    /// weight before it are 0.
+    pub fn set_entry(&self, row: usize, sequence: usize) -> Frac
+        requires side { IsSideData self.now }
+        requires row { row ≤ length self.now.sets }
+        requires sequence { sequence < sequences (side_of self.now) }
+        ensures { result ≡ set_row (side_of self.now) row sequence }
+    {
+        if row == 0 {
+            if sequence == 0 {
+                return Frac::one();
+            }
+            return Frac::zero();
         }
-        return Frac::zero();
-    }
-    let set = set_at(side, row - 1);
-    let first = set.first as usize;
-    if first <= sequence {
-        if sequence < first + set.count as usize {
-            return Frac::one();
+        let set = self.own_set(row - 1);
+        let first = set.first as usize;
+        if first <= sequence {
+            if sequence < first + set.count as usize {
+                return Frac::one();
+            }
+            return Frac::zero();
         }
-        return Frac::zero();
+        if sequence == set.before as usize {
+            return Frac::one().neg();
+        }
+        Frac::zero()
     }
-    if sequence == set.before as usize {
-        return Frac::one().neg();
-    }
-    Frac::zero()
 }

@@ -9,13 +9,13 @@ use crate::form::Side;
 /// and of own sets.
 #[derive(Clone, Copy, Debug, PartialEq, Eq)]
 pub struct Counts {
-    /// The sequences of player one.
+    /// The sequences of the first player.
     pub sequences_one: u64,
-    /// The sequences of player two.
+    /// The sequences of the second player.
     pub sequences_two: u64,
-    /// The sets of player one.
+    /// The sets of the first player.
     pub sets_one: u64,
-    /// The sets of player two.
+    /// The sets of the second player.
     pub sets_two: u64,
 }
 

@@ -18,10 +18,8 @@ pub fn sum(place: u32, left: Frac, right: Frac) -> Result<Frac, SeqStop>
     ensures value { IfOk result (λ v. v ≡ left +ℚ right) }
     ensures steps { fit_at place (step_of Add left right ∷ []) (map_ok result (λ _. tt)) }
 {
-    match left.add(right) {
-        Ok(value) => Ok(value),
-        Err(unfit) => Err(SeqStop::Range { place, unfit }),
-    }
+    left.add(right)
+        .map_err(|unfit| SeqStop::Range { place, unfit })
 }
 
 /// The product of two numbers at a node or a profile.
@@ -33,10 +31,8 @@ pub fn product(place: u32, left: Frac, right: Frac) -> Result<Frac, SeqStop>
     ensures value { IfOk result (λ v. v ≡ left *ℚ right) }
     ensures steps { fit_at place (step_of Mul left right ∷ []) (map_ok result (λ _. tt)) }
 {
-    match left.mul(right) {
-        Ok(value) => Ok(value),
-        Err(unfit) => Err(SeqStop::Range { place, unfit }),
-    }
+    left.mul(right)
+        .map_err(|unfit| SeqStop::Range { place, unfit })
 }
 
 // A sum with the product of a chance and a payoff.

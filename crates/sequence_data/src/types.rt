@@ -1,5 +1,5 @@
-// The parts of a sequence form. Players are numbered from 0 in clauses; one is player 0. Sequences
-// are numbered from 0, which is the empty one.
+// The parts of a sequence form. Sequences are numbered from 0, which is the empty one. In clauses
+// the first player is 0 and the second is 1.
 use frac128::Frac;
 
 /// An information set of a player.
@@ -18,29 +18,29 @@ pub struct SetRow {
 pub struct Leaf {
     /// The node, or the profile.
     pub place: u32,
-    /// The last sequence of player one.
+    /// The last sequence of the first player.
     pub row: u32,
-    /// The last sequence of player two.
+    /// The last sequence of the second player.
     pub column: u32,
     /// The product of the probabilities of chance on the path.
     pub chance: Frac,
-    /// What the outcomes on the path pay player one.
+    /// What the outcomes on the path pay the first player.
     pub one: Frac,
-    /// What they pay player two.
+    /// What they pay the second player.
     pub two: Frac,
 }
 
 /// A cell of the form: the sums over the leaves with this row and column.
 #[derive(Clone, Copy, Debug)]
 pub struct Cell {
-    /// The sequence of player one.
+    /// The sequence of the first player.
     pub row: u32,
-    /// The sequence of player two.
+    /// The sequence of the second player.
     pub column: u32,
     /// The sum of the chances.
     pub weight: Frac,
-    /// The sum of the chances times the payoffs of player one.
+    /// The sum of the chances times the payoffs of the first player.
     pub one: Frac,
-    /// The sum of the chances times the payoffs of player two.
+    /// The sum of the chances times the payoffs of the second player.
     pub two: Frac,
 }

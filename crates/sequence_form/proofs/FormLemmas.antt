@@ -9,10 +9,10 @@ use Rattle.game_core.specs.Table.{GameTable}
 use Rattle.game_core.specs.Tree.{GameTree}
 use Rattle.game_core.specs.TreeGame.{game_of_tree}
 use Rattle.game_theory.specs.Trees.{Tree}
-use Rattle.sequence_data.specs.Data.{FormData, form_of_leaves}
+use Rattle.sequence_data.specs.Data.{FormData, IsFormOf, form_of_leaves}
 use Rattle.sequence_data.specs.declared.stop.SeqStop.TheVariants as stops
 use Rattle.sequence_data.proofs.OneFormLemmas.{form_of_leaves-single}
-use Rattle.sequence_form.specs.Forms.{IsTableForm, IsTreeForm, of_two_players, tree_form, table_leaves, table_form}
+use Rattle.sequence_form.specs.Forms.{IsTreeForm, of_two_players, tree_form, table_leaves, table_form}
 use Rattle.sequence_form.specs.Laws.{count_of_columns, count_of_rows}
 use Rattle.sequence_form.specs.Paths.{node_steps, paths_in, tree_leaves}
 use Rattle.sequence_form.specs.Sequences.{start_side, tree_side}
@@ -30,7 +30,11 @@ tree_form-two t f h = are_two (length t.players) h.1
 pub tree_form-is : (t : GameTree) (f : FormData) → tree_form t (Ok f) → IsTreeForm (game_of_tree t) f
 tree_form-is t f h = h.2.2.2
 
--- and so of a table
+-- ---- tables
+-- the form over the sides of both players' strategies and the profiles
+abbrev pub IsTableForm : GameTable → FormData → Type 0
+IsTableForm t = IsFormOf (start_side (count_of_rows t)) (start_side (count_of_columns t)) (table_leaves t)
+
 pub table_form-two : (t : GameTable) (f : FormData) → table_form t (Ok f) → length t.players ≡ 2
 table_form-two t f h = are_two (length t.players) h.1
 

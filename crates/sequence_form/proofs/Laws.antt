@@ -19,10 +19,10 @@ use Rattle.sequence_data.specs.Data.{FormData, SideData, form, lists_of, of_play
 use Rattle.sequence_data.specs.declared.types.Cell.{Cell}
 use Rattle.sequence_data.specs.declared.types.Leaf.{Leaf}
 use Rattle.sequence_data.proofs.CellSumLemmas.{cells-sum}
-use Rattle.sequence_form.specs.Forms.{IsTreeForm, profile_leaf, table_leaves, IsTableForm}
+use Rattle.sequence_form.specs.Forms.{IsTreeForm, profile_leaf, table_leaves}
 use Rattle.sequence_form.specs.Laws.{TreeFormsStandForTrees, TreeFormsPayPlans, count_of_rows, count_of_columns, TableFormsStandForTables, TableFormsPayPlans}
 use Rattle.sequence_form.specs.Paths.{leaf_at, tree_leaves}
-use Rattle.sequence_form.proofs.FormLemmas.{table_form-is, table_form-two}
+use Rattle.sequence_form.proofs.FormLemmas.{IsTableForm, table_form-is, table_form-two}
 use Rattle.sequence_form.proofs.SideLemmas.{befores, counts}
 use Rattle.sequence_form.proofs.TableLeafLemmas.{two-strategies}
 

@@ -3,7 +3,7 @@ use Rattle.std.proofs.Common.{ℕ, zero, suc, ◌+◌, ◌<◌, ◌≤◌, ◌�
 use Rattle.std.specs.List.{range_with_len}
 use Rattle.std.specs.Prelude.{cond, filter, is_none, is_some}
 use Rattle.std.proofs.lemmas.List.{append-nil, map-append, length_push, take_all}
-use Rattle.std.proofs.lemmas.List.Elements.{All-nil, All-map, All-filter, filter-append}
+use Rattle.std.proofs.lemmas.List.Elements.{All-map, All-filter, filter-append}
 use Rattle.std.proofs.lemmas.List.FromFn.{get_or-range_with_len, length-range_with_len}
 use Rattle.std.proofs.lemmas.Option.{none-some, same_Some}
 use Rattle.lists.proofs.ElementLemmas.{range-last}
@@ -35,11 +35,11 @@ module _ (t : Tree) (k : ℕ) where
   pub chance-stop : (stop : SeqStop) → fit_at k firsts (Err stop) → fit_at k (child_steps t k) (Err stop)
   chance-stop stop h = fit_at-more k firsts (payoff_step t k 0 ∷ payoff_step t k 1 ∷ []) stop h
 
-  -- then the payoff of player 0
+  -- then the payoff of the first player
   pub one-stop : (stop : SeqStop) → All StepFits firsts → fit_at k (payoff_step t k 0 ∷ []) (Err stop) → fit_at k (child_steps t k) (Err stop)
   one-stop stop fit h = fit_at-following k firsts (payoff_step t k 0 ∷ payoff_step t k 1 ∷ []) (Err stop) fit (fit_at-more k (payoff_step t k 0 ∷ []) (payoff_step t k 1 ∷ []) stop h)
 
-  -- and that of player 1
+  -- and that of the second player
   pub two-answer : (answer : Result (Unit {0}) SeqStop) → All StepFits firsts → All StepFits (payoff_step t k 0 ∷ []) → fit_at k (payoff_step t k 1 ∷ []) answer → fit_at k (child_steps t k) answer
   two-answer answer fit one h = fit_at-following k firsts (payoff_step t k 0 ∷ payoff_step t k 1 ∷ []) answer fit (fit_at-following k (payoff_step t k 0 ∷ []) (payoff_step t k 1 ∷ []) answer one h)
 
@@ -105,10 +105,6 @@ module _ (t : Tree) where
     pub path-stop : 0 < k → (stop : SeqStop) → fit_at k (child_steps t k) (Err stop) → paths_in t (Err stop)
     path-stop h stop (step, u, told) =
         ((k, step), first_unfit_here (node_steps t) nodes k k within here step fit (subst (λ s. IsFirstUnfit s step) (sym (node-child t k h)) u), told)
-
-  -- the root has no steps
-  pub path-start : 0 < t.size → All (StepsFit (node_steps t)) (take 1 nodes)
-  path-start l = fits_next (node_steps t) nodes 0 0 (omega (arith, l, length-range_with_len 0 t.size)) (omega (arith, get_or-range_with_len 0 t.size 0 0 l)) (All-nil (StepsFit (node_steps t))) (All-nil StepFits)
 
   -- the steps of all nodes fit
   pub path-all : (n : ℕ) → t.size ≤ n → All (StepsFit (node_steps t)) (take n nodes) → paths_in t (Ok tt)

@@ -23,21 +23,25 @@ pub record StandsForTree (t : Tree) (f : FormData) : Type 0 where
 abbrev pub TreeFormsStandForTrees : Type 0
 TreeFormsStandForTrees = (t : Tree) (f : FormData) → IsTreeForm t f → StandsForTree t f
 
--- two plans pay by the cells what their behaviour pays on the tree, for either player, and they weigh the cells to 1
+-- two plans pay by the cells what their behaviour pays on the tree, for either player, and they
+-- weigh the cells to 1
 pub record PlansPayOnTree (t : Tree) (f : FormData) : Type 0 where
-  pub pays : (x y : ℕ → ℚ) (i : ℕ) → i < 2 → IsRealisationPlan (form f).rows x → IsRealisationPlan (form f).columns y → payoff t (behaviour_of t (of_two x y)) i ≡ cell_sum (form f) ((form f).pays i) x y
+  pub pays : (x y : ℕ → ℚ) (i : ℕ) → i < 2 → IsRealisationPlan (form f).rows x
+      → IsRealisationPlan (form f).columns y
+      → payoff t (behaviour_of t (of_two x y)) i ≡ cell_sum (form f) ((form f).pays i) x y
   pub weigh_one : WeighsOne (form f)
 
 -- the form of a tree of two players who recall pays plans as the tree does
 abbrev pub TreeFormsPayPlans : Type 0
-TreeFormsPayPlans = (t : Tree) (f : FormData) → HasTwoWhoRecall t → IsTreeForm t f → PlansPayOnTree t f
+TreeFormsPayPlans =
+    (t : Tree) (f : FormData) → HasTwoWhoRecall t → IsTreeForm t f → PlansPayOnTree t f
 
 -- ---- tables
--- how many strategies player 0 has
+-- how many strategies the first player has
 abbrev pub count_of_rows : GameTable → ℕ
 count_of_rows t = slice_index (strategy_counts t) 0
 
--- how many strategies player 1 has
+-- how many strategies the second player has
 abbrev pub count_of_columns : GameTable → ℕ
 count_of_columns t = slice_index (strategy_counts t) 1
 
@@ -50,13 +54,18 @@ pub record StandsForTable (t : GameTable) (f : FormData) : Type 0 where
 
 -- the form of a table stands for it
 abbrev pub TableFormsStandForTables : Type 0
-TableFormsStandForTables = (t : GameTable) (f : FormData) → IsTable t → table_form t (Ok f) → StandsForTable t f
+TableFormsStandForTables =
+    (t : GameTable) (f : FormData) → IsTable t → table_form t (Ok f) → StandsForTable t f
 
--- two plans pay by the cells what the strategies' weights in them pay, for either player, and they weigh the cells to 1
+-- two plans pay by the cells what the strategies' weights in them pay, for either player, and they
+-- weigh the cells to 1
 pub record PlansPayOnTable (t : GameTable) (f : FormData) : Type 0 where
-  pub pays : (x y : ℕ → ℚ) (i : ℕ) → i < 2 → table_payoff (game_of t) (mixed_of_plans (of_two x y)) i ≡ cell_sum (form f) ((form f).pays i) x y
+  pub pays : (x y : ℕ → ℚ) (i : ℕ) → i < 2
+      → table_payoff (game_of t) (mixed_of_plans (of_two x y)) i
+      ≡ cell_sum (form f) ((form f).pays i) x y
   pub weigh_one : WeighsOne (form f)
 
 -- the form of a table pays plans as the table does
 abbrev pub TableFormsPayPlans : Type 0
-TableFormsPayPlans = (t : GameTable) (f : FormData) → IsTable t → table_form t (Ok f) → PlansPayOnTable t f
+TableFormsPayPlans =
+    (t : GameTable) (f : FormData) → IsTable t → table_form t (Ok f) → PlansPayOnTable t f

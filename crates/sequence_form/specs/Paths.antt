@@ -1,4 +1,5 @@
--- What the paths of a tree of two players lead to: rows, columns, chances and payoffs, and the steps in which they are computed.
+-- What the paths of a tree of two players lead to: rows, columns, chances and payoffs, and the
+-- steps in which they are computed.
 use Rattle.std.specs.Prelude.{ℕ, zero, suc, List, [], ◌∷◌, ◌++◌, map, Option, Some, None}
 use Rattle.std.specs.List.{range_with_len}
 use Rattle.answers.specs.Answers.{Answer, refused_by}
@@ -14,14 +15,23 @@ use Rattle.sequence_data.specs.declared.types.Leaf.{Leaf}
 
 -- node k with its last sequences, its chance and the payoffs of its path
 abbrev pub leaf_at : Tree → ℕ → Leaf
-leaf_at t k = record { place = k; row = row t k; column = column t k; chance = chance_of_path t k; one = payoff_of_path t 0 k; two = payoff_of_path t 1 k }
+leaf_at t k =
+    record {
+      place = k;
+      row = row t k;
+      column = column t k;
+      chance = chance_of_path t k;
+      one = payoff_of_path t 0 k;
+      two = payoff_of_path t 1 k;
+    }
 
 -- the leaves of a tree
 abbrev pub tree_leaves : Tree → List Leaf
 tree_leaves t = map (leaf_at t) (leaves t)
 
 -- ---- steps
--- the chance of a node after set s with this owner: the parent's times the probability, where chance plays there
+-- the chance of a node after set s with this owner: the parent's times the probability, where
+-- chance plays there
 abbrev pub chance_step : Tree → ℕ → ℕ → Option ℕ → List Step
 chance_step t k s None = step_of Mul (chance_of_path t (t.parent k)) (t.chance s (t.branch k)) ∷ []
 chance_step t k s (Some i) = []
@@ -37,7 +47,8 @@ payoff_step t k i = step_of Add (payoff_of_path t i (t.parent k)) (t.pays k i)
 
 -- the steps at a node after the root
 abbrev pub child_steps : Tree → ℕ → List Step
-child_steps t k = chance_steps t k (t.set (t.parent k)) ++ payoff_step t k 0 ∷ payoff_step t k 1 ∷ []
+child_steps t k =
+    chance_steps t k (t.set (t.parent k)) ++ payoff_step t k 0 ∷ payoff_step t k 1 ∷ []
 
 -- the steps at a node: none at the root
 abbrev pub node_steps : Tree → ℕ → List Step

@@ -1,4 +1,5 @@
--- The sequences of a player of a tree by the numbers of the sets, and the player's side as data. Source: von Stengel 1996.
+-- The sequences of a player of a tree by the numbers of the sets, and the player's side as data.
+-- Source: von Stengel 1996.
 use Rattle.std.specs.Prelude.{ℕ, suc, if◌then◌else◌, List, length, map, ◌≡◌, ◌∷◌, [], Some}
 use Rattle.std.specs.List.{range_with_len}
 use Rattle.game_theory.specs.Trees.{Tree}
@@ -23,13 +24,20 @@ abbrev pub AreFirsts : Tree → ℕ → List ℕ → Type 0
 AreFirsts t i firsts = firsts ≡ map (next_sequence t i) (range_with_len 0 (suc t.sets))
 
 -- ---- a side as data
--- player i's own set s: the sequence before it, that of its first action, and how many actions it has
+-- player i's own set s: the sequence before it, that of its first action, and how many actions it
+-- has
 abbrev pub own_set_row : Tree → ℕ → ℕ → SetRow
-own_set_row t i s = record { before = sequence_before t i s; first = sequence t i (Some (s, 0)); count = t.actions s }
+own_set_row t i s =
+    record {
+      before = sequence_before t i s;
+      first = sequence t i (Some (s, 0));
+      count = t.actions s;
+    }
 
 -- player i's sequences and own sets
 abbrev pub tree_side : Tree → ℕ → SideData
-tree_side t i = record { sequences = sequences (side_of t i); sets = map (own_set_row t i) (own_sets t i) }
+tree_side t i =
+    record { sequences = sequences (side_of t i); sets = map (own_set_row t i) (own_sets t i) }
 
 -- one set, at the start, with n actions
 abbrev pub start_side : ℕ → SideData

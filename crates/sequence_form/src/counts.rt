@@ -3,11 +3,9 @@ ghost use Rattle.std.specs.Prelude.{◌≡◌, ◌<◌, ◌^◌, length, slice_i
 ghost use Rattle.game_core.specs.Table.{strategy_counts};
 ghost use Rattle.game_core.specs.TreeGame.{game_of_tree};
 ghost use Rattle.game_theory.specs.OwnSets.{own_sets};
-ghost use Rattle.sequence_data.specs.Data.{FormData};
-ghost use Rattle.sequence_data.specs.Sizes.{AreFew, counts_of};
+ghost use Rattle.sequence_data.specs.Sizes.{AreFew, stored_sizes};
 ghost use Rattle.sequence_forms.specs.Sequences.{side_of};
 ghost use Rattle.sequence_forms.specs.Sides.{sequences};
-ghost use Rattle.sequence_form.specs.Forms.{IsTableForm, IsTreeForm};
 ghost use Rattle.sequence_form.specs.Sequences.{start_side, tree_side};
 
 use crate::sequences::sequence_count_of;
@@ -39,10 +37,8 @@ fn set_count(tree: &Tree, player: u32) -> u64
 /// The sizes of the sequence form of a tree of two players, before it is made. Takes no memory.
 pub fn counts_tree(tree: &Tree) -> Counts
     requires { length tree.now.players ≡ 2 }
-    ensures counts { result
-        ≡ counts_of (tree_side (game_of_tree tree.now) 0) (tree_side (game_of_tree tree.now) 1) }
-    ensures form { (f : FormData) → IsTreeForm (game_of_tree tree.now) f
-        → result ≡ counts_of f.first f.second }
+    ensures sizes { result ≡ stored_sizes (tree_side (game_of_tree tree.now) 0)
+        (tree_side (game_of_tree tree.now) 1) }
     ensures few { AreFew result }
 {
     Counts {
@@ -56,10 +52,9 @@ pub fn counts_tree(tree: &Tree) -> Counts
 /// The sizes of the sequence form of a table of two players, before it is made. Takes no memory.
 pub fn counts_table(table: &Table) -> Counts
     requires { length table.now.players ≡ 2 }
-    ensures counts { result
-        ≡ counts_of (start_side (slice_index (strategy_counts table.now) 0))
+    ensures sizes { result
+        ≡ stored_sizes (start_side (slice_index (strategy_counts table.now) 0))
         (start_side (slice_index (strategy_counts table.now) 1)) }
-    ensures form { (f : FormData) → IsTableForm table.now f → result ≡ counts_of f.first f.second }
     ensures few { AreFew result }
 {
     // Its contract gives what the type keeps.

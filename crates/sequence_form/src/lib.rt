@@ -8,7 +8,8 @@
 //! sizes.
 //! Lemmas for callers: `proofs::FormLemmas`, `KeptFormLemmas`, `Laws` and `TableLeafLemmas` on
 //! built forms.
-//! A change here touches: `behaviour_profile`, and the stages and laws of `lp` and `lcp`.
+//! A change here touches: `behaviour_profile`, `two_player_tools`, `refusals`, `gambit_tools`: the
+//! stages of what `lp` and what `lcp` print, and their laws.
 #![tactic(auto)]
 
 ghost use Rattle.answers.specs.Answered.{IsAnswered};

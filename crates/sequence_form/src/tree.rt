@@ -18,8 +18,8 @@ use std::alloc::Global;
 ///
 /// `NotTwoPlayers` exactly where the tree has another number of players. `Range` exactly where it
 /// has two and a step does not fit: the first. The nodes come first, in order: at each but the root
-/// the chance, where the parent is chance's, then the payoffs of players one and two; then the
-/// leaves in order, each into its cell. `Memory` where memory ran out.
+/// the chance, where the parent is chance's, then the payoffs of the first player and of the
+/// second; then the leaves in order, each into its cell. `Memory` where memory ran out.
 pub fn build(alloc: Global, tree: &Tree, recall: &Recall) -> Result<SeqForm, SeqStop>
     requires { IsRecallOf (game_of_tree tree.now) recall.now }
     ensures { Gives stops.Memory (tree_form tree.now) result }

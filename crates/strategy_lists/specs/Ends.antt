@@ -9,14 +9,16 @@ use Rattle.strategy_lists.specs.Reduced.{AreLinked}
 -- whether an edge leads on, by which of the earlier decisions are reached
 abbrev pub is_led_to : List Bool → List ℕ → Option Edge → Bool
 is_led_to reach choices None = true
-is_led_to reach choices (Some edge) = slice_index_or reach edge.decision false && (slice_index choices edge.place == suc edge.action)
+is_led_to reach choices (Some edge) =
+    slice_index_or reach edge.decision false && (slice_index choices edge.place == suc edge.action)
 
 -- the choices at the ends of the walk over the decisions that are left
 unfoldable pub ends : List ℕ → List Decision → List Bool → List ℕ → List (List ℕ)
 ends actions [] reach choices = choices ∷ []
 ends actions (d ∷ ds) reach choices =
     if is_led_to reach choices d.before && (slice_index choices d.place == 0)
-    then flat_map (λ a. ends actions ds (reach ++ true ∷ []) (slice_set choices d.place a)) (range_with_len 1 (slice_index actions d.place))
+    then flat_map (λ a. ends actions ds (reach ++ true ∷ []) (slice_set choices d.place a))
+    (range_with_len 1 (slice_index actions d.place))
     else ends actions ds (reach ++ is_led_to reach choices d.before ∷ []) choices
 
 -- the place of a decision's set
@@ -25,13 +27,18 @@ place_of decisions j = slice_index (map (λ d. d.place) decisions) j
 
 -- the ends with an action at decision j
 abbrev pub ends_at : List Decision → List ℕ → List Bool → List ℕ → ℕ → ℕ → List (List ℕ)
-ends_at decisions actions reach choices j a = ends actions (drop (suc j) decisions) (take (suc j) reach) (slice_set choices (place_of decisions j) a)
+ends_at decisions actions reach choices j a =
+    ends actions (drop (suc j) decisions) (take (suc j) reach)
+    (slice_set choices (place_of decisions j) a)
 
--- the ends with the further actions of the decisions that gave their set its action, the last one first
+-- the ends with the further actions of the decisions that gave their set its action, the last one
+-- first
 unfoldable pub later : List Decision → List ℕ → List Bool → List ℕ → List ℕ → List (List ℕ)
 later decisions actions reach [] choices = []
 later decisions actions reach (j ∷ fixed) choices =
-    flat_map (ends_at decisions actions reach choices j) (range_with_len (suc (slice_index choices (place_of decisions j))) (slice_index actions (place_of decisions j) - slice_index choices (place_of decisions j)))
+    flat_map (ends_at decisions actions reach choices j)
+    (range_with_len (suc (slice_index choices (place_of decisions j)))
+    (slice_index actions (place_of decisions j) - slice_index choices (place_of decisions j)))
     ++ later decisions actions reach fixed (slice_set choices (place_of decisions j) 0)
 
 -- numbers below n that fall
@@ -49,11 +56,15 @@ pub record IsAt (walk : Walk) (n : ℕ) : Type 0 where
 
 -- the ends to come after the present one
 abbrev pub later_ends : Walk → List (List ℕ)
-later_ends walk = later walk.decisions.now walk.actions.now walk.reached.items (reverse walk.fixed.items) walk.choices.items
+later_ends walk =
+    later walk.decisions.now walk.actions.now walk.reached.items (reverse walk.fixed.items)
+    walk.choices.items
 
 -- the ends to come before decision n
 abbrev pub ends_from : Walk → ℕ → List (List ℕ)
-ends_from walk n = ends walk.actions.now (drop n walk.decisions.now) (take n walk.reached.items) walk.choices.items ++ later_ends walk
+ends_from walk n =
+    ends walk.actions.now (drop n walk.decisions.now) (take n walk.reached.items) walk.choices.items
+    ++ later_ends walk
 
 -- a walk before its first decision
 pub record IsStart (decisions : List Decision) (actions : List ℕ) (walk : Walk) : Type 0 where

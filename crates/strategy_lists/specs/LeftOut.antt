@@ -20,18 +20,24 @@ kept_below kept n = count_by (is_kept kept) (range_with_len 0 n)
 -- an edge and a decision by the new numbers
 abbrev pub renumbered_edge : List Bool → Option Edge → Option Edge
 renumbered_edge kept None = None
-renumbered_edge kept (Some edge) = Some (record { decision = kept_below kept edge.decision; place = edge.place; action = edge.action })
+renumbered_edge kept (Some edge) =
+    Some
+    (record { decision = kept_below kept edge.decision; place = edge.place; action = edge.action })
 
 abbrev pub renumbered : List Bool → Decision → Decision
 renumbered kept d = record { place = d.place; before = renumbered_edge kept d.before }
 
--- A decision is left out only where its set has one action and no other decision; and a decision after which another is kept is
--- kept.
-pub record AreEnough (decisions : List Decision) (actions : List ℕ) (kept : List Bool) : Type 0 where
+-- A decision is left out only where its set has one action and no other decision; and a decision
+-- after which another is kept is kept.
+pub record AreEnough (decisions : List Decision) (actions : List ℕ)
+    (kept : List Bool) : Type 0 where
   pub one_for_each : length kept ≡ length decisions
-  pub one_action : (j : ℕ) (d : Decision) → slice_get decisions j ≡ Some d → is_kept kept j ≡ false → slice_index actions d.place ≡ 1
-  pub alone : (j k : ℕ) (d e : Decision) → slice_get decisions j ≡ Some d → slice_get decisions k ≡ Some e → is_kept kept j ≡ false → d.place ≡ e.place → j ≡ k
-  pub before_kept : (j : ℕ) (d : Decision) (edge : Edge) → slice_get decisions j ≡ Some d → is_kept kept j ≡ true → d.before ≡ Some edge → is_kept kept edge.decision ≡ true
+  pub one_action : (j : ℕ) (d : Decision) → slice_get decisions j ≡ Some d → is_kept kept j ≡ false
+      → slice_index actions d.place ≡ 1
+  pub alone : (j k : ℕ) (d e : Decision) → slice_get decisions j ≡ Some d
+      → slice_get decisions k ≡ Some e → is_kept kept j ≡ false → d.place ≡ e.place → j ≡ k
+  pub before_kept : (j : ℕ) (d : Decision) (edge : Edge) → slice_get decisions j ≡ Some d
+      → is_kept kept j ≡ true → d.before ≡ Some edge → is_kept kept edge.decision ≡ true
 
 -- with the decision of an edge
 abbrev pub marked : List Bool → Option Edge → List Bool
@@ -41,4 +47,6 @@ marked kept (Some edge) = slice_set kept edge.decision true
 -- each set that has two decisions is marked
 pub record AreShared (decisions : List Decision) (sets : ℕ) (shared : List Bool) : Type 0 where
   pub one_for_each : length shared ≡ sets
-  pub alone : (j k : ℕ) (d e : Decision) → slice_get decisions j ≡ Some d → slice_get decisions k ≡ Some e → slice_index_or shared d.place false ≡ false → d.place ≡ e.place → j ≡ k
+  pub alone : (j k : ℕ) (d e : Decision) → slice_get decisions j ≡ Some d
+      → slice_get decisions k ≡ Some e → slice_index_or shared d.place false ≡ false
+      → d.place ≡ e.place → j ≡ k

@@ -16,7 +16,8 @@ owner_of t (Some s) = t.owner s
 abbrev pub mover : Tree → ℕ → Option ℕ
 mover t k = owner_of t (t.set k)
 
--- an edge is that by the last move above node k, where these are the numbers of the decisions at the nodes
+-- an edge is that by the last move above node k, where these are the numbers of the decisions at
+-- the nodes
 pub record IsEdgeTo (t : Tree) (i : ℕ) (numbers : List ℕ) (k : ℕ) (edge : Edge) : Type 0 where
   pub node : ℕ
   pub set : ℕ
@@ -30,7 +31,8 @@ LeadsTo t i numbers k None = own_history t i k ≡ []
 LeadsTo t i numbers k (Some edge) = IsEdgeTo t i numbers k edge
 
 -- the decision is that of player i at node k
-pub record IsMadeAt (t : Tree) (i : ℕ) (numbers : List ℕ) (k : ℕ) (decision : Decision) : Type 0 where
+pub record IsMadeAt (t : Tree) (i : ℕ) (numbers : List ℕ) (k : ℕ)
+    (decision : Decision) : Type 0 where
   pub set : ℕ
   pub is_move : Chooses t k i set
   pub place_is : slice_get (own_sets t i) decision.place ≡ Some set
@@ -38,4 +40,5 @@ pub record IsMadeAt (t : Tree) (i : ℕ) (numbers : List ℕ) (k : ℕ) (decisio
 
 -- a list has a decision at this number, which it had before or which came after the others
 abbrev pub HasTaken : List Decision → List Decision → Decision → ℕ → Type 0
-HasTaken old new decision number = (slice_get new number ≡ Some decision) × ((new ≡ old) ⊎ (new ≡ old ++ decision ∷ []))
+HasTaken old new decision number =
+    (slice_get new number ≡ Some decision) × ((new ≡ old) ⊎ (new ≡ old ++ decision ∷ []))

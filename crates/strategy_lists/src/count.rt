@@ -89,7 +89,7 @@ fn count_apart(
 /// # Errors
 ///
 /// Memory ran out.
-pub fn count_reduced(
+pub(crate) fn count_reduced(
     alloc: Global,
     decisions: &[Decision],
     actions: &[u32],

@@ -7,7 +7,7 @@ ghost use Rattle.strategy_lists.specs.Decisions.{AreDecisionsOfAll};
 ghost use Rattle.strategy_lists.specs.Made.{HasTaken, IsMadeAt, mover};
 ghost use Rattle.game_theory.specs.OwnSets.{Chooses, own_sets};
 
-use crate::{Decision, Edge};
+use crate::decision::{Decision, Edge};
 use answers::Memory;
 use game_core::{LastMove, Tree, last_moves, trees_are_game_trees};
 use std::alloc::Global;

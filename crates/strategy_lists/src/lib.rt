@@ -4,12 +4,11 @@
 //!
 //! Callers may rely on: `Decisions::list` gives each of a player once, in order; `Decisions::count`
 //! their number up to a limit, without a walk if no set has two decisions; `set_places` the index
-//! of each set among its owner's; `list_reduced` and `count_reduced` do so for any linked
-//! decisions.
-//! Definitions: `specs::Reduced` has decisions that are linked (`AreLinked`) and their reduced
-//! strategies (`AreReducedBy`), `Decisions` the decisions of each player of a tree, `OwnNumbers`
-//! the numbers that are a player's own.
-//! Private words: `specs::Ends` and `LeftOut`, how the code walks and counts; `Made`, the
+//! of each set among its owner's.
+//! Definitions: `specs::Decisions` has the decisions of each player of a tree, `OwnNumbers` the
+//! numbers that are a player's own.
+//! Private words: `specs::Reduced`, decisions that are linked (`AreLinked`) and their reduced
+//! strategies (`AreReducedBy`); `Ends` and `LeftOut`, how the code walks and counts; `Made`, the
 //! decisions while they are made.
 //! Lemmas for callers: `proofs::EndListLemmas` on the ends of a walk, `AscendingOrderLemmas` on
 //! lists in order, `ActionCountLemmas` on own sets.
@@ -25,8 +24,5 @@ mod places;
 mod strategies;
 mod walk;
 
-pub use count::count_reduced;
-pub use decision::{Decision, Edge};
 pub use places::set_places;
 pub use strategies::Decisions;
-pub use walk::list_reduced;

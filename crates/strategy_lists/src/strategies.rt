@@ -6,8 +6,10 @@ ghost use Rattle.reduced_strategies.specs.Places.{ArePlaces};
 ghost use Rattle.strategy_lists.specs.Decisions.{AreDecisions, HasCount};
 ghost use Rattle.game_theory.specs.OwnSets.{own_counts};
 
+use crate::count::count_reduced;
+use crate::decision::Decision;
 use crate::decisions::decisions_of_all;
-use crate::{Decision, count_reduced, list_reduced};
+use crate::walk::list_reduced;
 use answers::Memory;
 use game_core::Tree;
 use std::alloc::Global;

@@ -138,7 +138,7 @@ pub(crate) fn count_ends(
 /// # Errors
 ///
 /// Memory ran out.
-pub fn list_reduced(
+pub(crate) fn list_reduced(
     alloc: Global,
     decisions: &[Decision],
     actions: &[u32],

@@ -132,20 +132,6 @@ pub record ListCutsBefore (t : Tree) (k : ℕ) (cuts : List (List ℕ)) : Type 0
   pub one_for_each : length cuts ≡ t.size
   pub are_nodes : (n : ℕ) → n < t.size → AreListed (IsPassingBelow (λ c. IsSubgameRoot t n × IsInCut t n c) k) (get_or cuts n [])
 
--- no node at first
-pub cuts-start : (t : Tree) (cuts : List (List ℕ)) → cuts ≡ replicate t.size [] → ListCutsBefore t 0 cuts
-cuts-start t cuts are = record {
-  one_for_each = ap length are ∙ length-replicate t.size [];
-  are_nodes = λ n below. record {
-    ascending = subst IsStrictlyIncreasing (sym (none n below)) (λ k few. absurd (omega (arith, few)));
-    sound = λ c found. absurd (let inside = subst (λ xs. Contains xs c) (none n below) found in omega (arith, inside.1));
-    complete = λ c cut. absurd (omega (arith, cut.0));
-  };
-}
-  where
-    none : (n : ℕ) → n < t.size → get_or cuts n [] ≡ []
-    none n below = ap (λ xs. get_or xs n []) are ∙ get_or-replicate t.size n [] [] below
-
 -- one more node
 pub cuts-next : (t : Tree) (k : ℕ) (old new : List (List ℕ)) → IsAddedToCuts t k old new → ListCutsBefore t k old → ListCutsBefore t (k + 1) new
 cuts-next t k old new added h = record { one_for_each = added.one_for_each ∙ h.one_for_each; are_nodes = listed }

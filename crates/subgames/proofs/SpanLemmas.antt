@@ -5,7 +5,7 @@ use Rattle.std.proofs.lemmas.Bool.{cases_eq}
 use Rattle.std.proofs.lemmas.List.{get_or-set_same, get_or-set_other, length-set, length_push}
 use Rattle.std.proofs.lemmas.Option.{slice_get-get_or, slice_get_within, get_or_from_slice_get, same_Some}
 use Rattle.lists.proofs.ElementLemmas.{slice_get-push_cases}
-use Rattle.game_theory.specs.OwnSets.{Chooses, NobodyChooses, numbers_with}
+use Rattle.game_theory.specs.OwnSets.{Chooses, numbers_with}
 use Rattle.game_theory.specs.Trees.{Tree, IsTree, IsAbove, IsWithin}
 use Rattle.game_theory.proofs.IndexLemmas.{numbers_with-at, numbers_with-tell, numbers_with-ascend}
 use Rattle.game_theory.proofs.SubtreeLemmas.{above_parent}
@@ -48,17 +48,6 @@ module _ (t : Tree) (c i s x y : ℕ) (members : List ℕ) (at_c : Chooses t c i
     greatest = (member-together (length members - 1) y end, λ d h. let m = together-member d h in members-ascend m.0 (length members - 1) d y (omega (arith, slice_get_within members m.0 d m.1)) m.1 end);
     last = refl;
   }
-
--- a node of no player's set
-pub own_span-of_none : (t : Tree) (c : ℕ) → c < t.size → NobodyChooses t c → IsOwnSpan t c (record { least = c; greatest = c; last = c })
-own_span-of_none t c below nobody = record {
-  least = ((below, inl refl), λ d h. omega (arith, alone d h));
-  greatest = ((below, inl refl), λ d h. omega (arith, alone d h));
-  last = refl;
-}
-  where
-    alone : (d : ℕ) → AreTogether t c d → c ≡ d
-    alone d h = elim h.1 [ inl same ↦ same | inr both ↦ absurd (nobody both.0 both.1 both.2) ]
 
 -- one more node
 pub AreOwnSpans-push : (t : Tree) (n : ℕ) (spans : List Span) (span : Span) → IsOwnSpan t n span → AreOwnSpans t n spans → AreOwnSpans t (n + 1) (spans ++ span ∷ [])

@@ -7,7 +7,8 @@ use Rattle.game_theory.specs.Behaviour.{Behaviour}
 use Rattle.game_theory.specs.Trees.{Tree, IsWithin}
 use Rattle.subgames.specs.Roots.{IsSubgameRoot}
 
--- node k stands in the cut at node n: in its subtree, where no subgame begins on the way between both
+-- node k stands in the cut at node n: in its subtree, where no subgame begins on the way between
+-- both
 abbrev pub IsInCut : Tree → ℕ → ℕ → Type 0
 IsInCut t n k =
     (k < t.size) × IsWithin t n k
@@ -26,12 +27,13 @@ IsSameSet sets _ _ = ⊥
 -- node j of the cut is node k of the tree: what it pays and its set, or the payoffs that are given
 pub record IsSameNode (t : Tree) (n : ℕ) (worth : ℕ → ℕ → ℚ) (sets : List ℕ) (c : Tree) (j k : ℕ)
     : Type 0 where
-  pub given : IsGivenEnd t n k → (c.set j ≡ None) × ((i : ℕ) → i < t.players → c.pays j i ≡ worth k i)
+  pub given : IsGivenEnd t n k
+      → (c.set j ≡ None) × ((i : ℕ) → i < t.players → c.pays j i ≡ worth k i)
   pub own : (IsGivenEnd t n k → ⊥) → IsSameSet sets (t.set k) (c.set j)
       × ((i : ℕ) → i < t.players → c.pays j i ≡ t.pays k i)
 
--- The cut at node n, where `worth k i` is given for player i at node k: its nodes in ascending order,
--- and its sets, by their numbers in the tree.
+-- The cut at node n, where `worth k i` is given for player i at node k: its nodes in ascending
+-- order, and its sets, by their numbers in the tree.
 pub record IsCutGame (t : Tree) (n : ℕ) (worth : ℕ → ℕ → ℚ) (nodes sets : List ℕ) (c : Tree)
     : Type 0 where
   pub players : c.players ≡ t.players
@@ -43,7 +45,8 @@ pub record IsCutGame (t : Tree) (n : ℕ) (worth : ℕ → ℕ → ℚ) (nodes s
   pub same_nodes : (j : ℕ) → j < c.size → IsSameNode t n worth sets c j (slice_index nodes j)
   pub as_many_sets : c.sets ≡ length sets
   pub sets_within : (r : ℕ) → r < c.sets → slice_index sets r < t.sets
-  pub sets_differ : (r q : ℕ) → r < c.sets → q < c.sets → slice_index sets r ≡ slice_index sets q → r ≡ q
+  pub sets_differ : (r q : ℕ) → r < c.sets → q < c.sets → slice_index sets r ≡ slice_index sets q
+      → r ≡ q
   pub owners : (r : ℕ) → r < c.sets → c.owner r ≡ t.owner (slice_index sets r)
   pub actions : (r : ℕ) → r < c.sets → c.actions r ≡ t.actions (slice_index sets r)
   pub chances : (r a : ℕ) → r < c.sets → a < c.actions r

@@ -17,7 +17,8 @@ AreValuesAtEnds t n worth b i =
 -- then each node of the cut has its value in the tree
 abbrev pub CutsKeepValues : Type 0
 CutsKeepValues =
-    (t : Tree) (n : ℕ) (worth : ℕ → ℕ → ℚ) (nodes sets : List ℕ) (c : Tree) (b : Behaviour) (i j : ℕ)
+    (t : Tree) (n : ℕ) (worth : ℕ → ℕ → ℚ) (nodes sets : List ℕ) (c : Tree) (b : Behaviour)
+    (i j : ℕ)
     → IsTree t → IsTree c → IsCutGame t n worth nodes sets c → i < t.players
     → AreValuesAtEnds t n worth b i → j < c.size
     → value c (cut_behaviour sets b) i j ≡ value t b i (slice_index nodes j)
@@ -52,8 +53,8 @@ abbrev pub StandsInCut : Tree → ℕ → ℕ → Type 0
 StandsInCut t n s =
     (k : ℕ) × IsInCut t n k × (¬ IsGivenEnd t n k) × (t.set k ≡ Some s)
 
--- each set that a node has stands in the cut at some node where a subgame begins, and a player's set
--- stands in the cut at one such node only
+-- each set that a node has stands in the cut at some node where a subgame begins, and a player's
+-- set stands in the cut at one such node only
 pub record SetsStandInOneCut : Type 0 where
   pub some : (t : Tree) (k s : ℕ) → IsTree t → k < t.size → t.set k ≡ Some s
       → (n : ℕ) × (n < t.size) × IsSubgameRoot t n × StandsInCut t n s

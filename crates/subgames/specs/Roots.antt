@@ -16,8 +16,8 @@ HasWholeSets t k =
     (c d i s : ℕ) → c < t.size → d < t.size → Chooses t c i s → Chooses t d i s
     → IsWithin t k c → IsWithin t k d
 
--- at node k a subgame begins: at the root, and at each other inner node that is chance's or alone in
--- its set and whose subtree splits no player's set
+-- at node k a subgame begins: at the root, and at each other inner node that is chance's or alone
+-- in its set and whose subtree splits no player's set
 abbrev pub IsSubgameRoot : Tree → ℕ → Type 0
 IsSubgameRoot t k = (k ≡ 0) ⊎ (BeginsAlone t k × HasWholeSets t k)
 

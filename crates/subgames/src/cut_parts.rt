@@ -6,7 +6,7 @@ ghost use Rattle.game_theory.specs.OwnSets.{places_with};
 ghost use Rattle.game_core.specs.Tree.{IsBelow};
 ghost use Rattle.game_core.specs.TreeGame.{game_of_tree};
 ghost use Rattle.lists.specs.Listed.{IsIndexOf};
-ghost use Rattle.subgames.specs.CutParts.{AreIndicesIn, actions_of, cut_information_set, cut_node, cut_outcome, cut_pays, named_kind, without_name};
+ghost use Rattle.subgames.specs.CutParts.{AreIndicesIn, cut_information_set, cut_node, cut_outcome, cut_pays, named_kind, without_name};
 
 use crate::cut_nodes::is_given_end;
 use crate::members::member_lists;

@@ -10,8 +10,8 @@
 //! Private words: `specs::Spans`, how far subtrees and the players' sets in them reach, and
 //! `CutParts`, of which parts a cut is made.
 //! Lemmas for callers: `proofs::CutWalkLemmas`, `CutWorthLemmas`, `CutNodeLemmas`, `SomeCutLemmas`.
-//! A change here touches: `enumpure_trees`, `two_player_tools`, and what `enumpure -P`, `lcp -P`
-//! and `lp -P` print.
+//! A change here touches: `enumpure_trees`, `two_player_tools`, `gambit_tools`, and what
+//! `enumpure -P`, `lcp -P` and `lp -P` print.
 #![tactic(auto)]
 
 mod cut_laws;

@@ -13,7 +13,7 @@ use Rattle.game_core.specs.declared.tree.Action.{Action}
 use Rattle.game_core.specs.Tree.{probability_at}
 use Rattle.game_core.specs.declared.token.Token.{Token}
 use Rattle.game_core.specs.declared.token.Token.TheVariants.{Left, Right, Text, Number}
-use Rattle.file_parts.specs.Parsing.{Parsed, ◌>>=◌, passed}
+use Rattle.file_parts.specs.Parsing.{Parsed, ◌>>=◌, expected_mark}
 use Rattle.file_parts.proofs.ReaderLemmas.{chain, bind_ok, bind_err, ok_same, err_same, ok_err, result_of}
 use Rattle.file_parts.proofs.TokenLaws.{le_passes}
 use Rattle.written_trees.specs.Building.{add_test}
@@ -133,7 +133,7 @@ closing set x tokens = parse_closed (length x.0) tokens >>= λ rest. if eq_ℚ x
 closed_ok : (n : ℕ) (tokens : List Token) (x : Unit {0} × List Token) → parse_closed n tokens ≡ Ok x → (1 ≤ n) × (tokens ≡ Right ∷ x.1)
 closed_ok n tokens x e = by (closed_at n tokens) refl e
   where
-    by : (o : Option (List Token)) → closed_at n tokens ≡ o → passed Node tokens o ≡ Ok x → (1 ≤ n) × (tokens ≡ Right ∷ x.1)
+    by : (o : Option (List Token)) → closed_at n tokens ≡ o → expected_mark Node tokens o ≡ Ok x → (1 ≤ n) × (tokens ≡ Right ∷ x.1)
     by None h e = absurd (ok_err x (Node, tokens) (sym e))
     by (Some rest) h e =
         let c = closed_is n tokens rest h in
@@ -142,7 +142,7 @@ closed_ok n tokens x e = by (closed_at n tokens) refl e
 pub closed_err : (n : ℕ) (tokens : List Token) (f : EfgKind × List Token) → parse_closed n tokens ≡ Err f → (Node, tokens) ≡ f
 closed_err n tokens f e = by (closed_at n tokens) e
   where
-    by : (o : Option (List Token)) → passed Node tokens o ≡ Err f → (Node, tokens) ≡ f
+    by : (o : Option (List Token)) → expected_mark Node tokens o ≡ Err f → (Node, tokens) ≡ f
     by None e = err_same {A = Unit {0} × List Token} (Node, tokens) f e
     by (Some rest) e = absurd (ok_err (tt, rest) f e)
 

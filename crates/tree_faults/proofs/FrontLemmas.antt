@@ -6,7 +6,7 @@ use Rattle.game_core.specs.declared.token.Token.{Token}
 use Rattle.game_core.specs.declared.token.Token.TheVariants.{Left, Right, Text}
 use Rattle.file_parts.specs.Parts.{braced_texts}
 use Rattle.file_parts.specs.Reading.{closing_brace_at, texts_at, after_text}
-use Rattle.file_parts.specs.Parsing.{Parsed, ◌>>=◌, passed, parse_title, parse_names}
+use Rattle.file_parts.specs.Parsing.{Parsed, ◌>>=◌, expected_mark, parse_title, parse_names}
 use Rattle.file_parts.proofs.HeaderLaws.{title_is}
 use Rattle.file_parts.proofs.PartReaderLemmas.{title_reader, names_reader}
 use Rattle.file_parts.proofs.ReaderLemmas.{chain, bind_err, err_same, ok_err, same_front, cut}
@@ -111,11 +111,11 @@ unfolding parse_names
 names_go_on (Left ∷ inner) fault e = elim (cases_Bool (nat_eq (length (texts_at inner).0) 0)) [
   | inl z ↦ let o : ◌≡◌ {A = Parsed EfgKind (List (List ℕ))} (Err (Players, (texts_at inner).1)) (Err fault) = rw z at e in open_texts inner fault.1 (sym (ap (λ (f : EfgKind × List Token). f.1) (err_same (Players, (texts_at inner).1) fault o)))
   | inr z ↦
-      let o : (passed Players (texts_at inner).1 (closing_brace_at (texts_at inner).1) >>= λ rest. Ok ((texts_at inner).0, rest.1)) ≡ Err fault = rw z at e in
+      let o : (expected_mark Players (texts_at inner).1 (closing_brace_at (texts_at inner).1) >>= λ rest. Ok ((texts_at inner).0, rest.1)) ≡ Err fault = rw z at e in
       open_texts inner fault.1 (sym (closed (texts_at inner).0 (texts_at inner).1 fault o))
 ]
   where
-    closed : (texts : List (List ℕ)) (tokens : List Token) (fault : EfgKind × List Token) → chain {B = List (List ℕ) × List Token} (passed Players tokens (closing_brace_at tokens)) (λ rest. Ok (texts, rest.1)) ≡ Err fault → tokens ≡ fault.1
+    closed : (texts : List (List ℕ)) (tokens : List Token) (fault : EfgKind × List Token) → chain {B = List (List ℕ) × List Token} (expected_mark Players tokens (closing_brace_at tokens)) (λ rest. Ok (texts, rest.1)) ≡ Err fault → tokens ≡ fault.1
     closed texts (Right ∷ rest) fault e = absurd (ok_err (texts, rest) fault e)
     closed texts tokens fault e = ap (λ (f : EfgKind × List Token). f.1) (err_same (Players, tokens) fault e)
 names_go_on tokens fault e = subst (GoOn tokens) (ap (λ (f : EfgKind × List Token). f.1) (err_same (Players, tokens) fault e)) (no_names tokens)

@@ -6,7 +6,7 @@ use Rattle.game_core.specs.declared.tree.Action.{Action}
 use Rattle.game_core.specs.declared.token.Token.{Token}
 use Rattle.game_core.specs.declared.token.Token.TheVariants.{Left, Text}
 use Rattle.file_parts.specs.Reading.{opening_brace_at, text_at, optional_text_at, opens}
-use Rattle.file_parts.specs.Parsing.{Parsed, ◌>>=◌, wanted, passed}
+use Rattle.file_parts.specs.Parsing.{Parsed, ◌>>=◌, wanted, expected_mark}
 use Rattle.file_parts.proofs.ReaderLemmas.{chain, IsReader, bind_reader, choose, choose_reader, same_reader, ok_err, bind_ok}
 use Rattle.file_parts.proofs.TokenReaderLemmas.{opening_brace_reader, text_reader, opens_first}
 use Rattle.written_trees.specs.Written.{SetUse, OutcomeUse}
@@ -107,8 +107,8 @@ map_then (Err fault) h g = refl
 -- a first list of actions
 pub first_list_reader : (owner : Option ℕ) (set : ℕ) → ((set : ℕ) → IsReader (parse_list_of None set)) → ((i set : ℕ) → IsReader (parse_list_of (Some i) set)) → IsReader (parse_first_list owner set)
 unfolding parse_first_list
-first_list_reader None set C O = bind_reader (λ tokens. passed SetMismatch tokens (opening_brace_at tokens)) (λ _ tokens. parse_list_of None set tokens) (opening_brace_reader SetMismatch) (λ _ _ _. C set)
-first_list_reader (Some i) set C O = bind_reader (λ tokens. passed SetMismatch tokens (opening_brace_at tokens)) (λ _ tokens. parse_list_of (Some i) set tokens) (opening_brace_reader SetMismatch) (λ _ _ _. O i set)
+first_list_reader None set C O = bind_reader (λ tokens. expected_mark SetMismatch tokens (opening_brace_at tokens)) (λ _ tokens. parse_list_of None set tokens) (opening_brace_reader SetMismatch) (λ _ _ _. C set)
+first_list_reader (Some i) set C O = bind_reader (λ tokens. expected_mark SetMismatch tokens (opening_brace_at tokens)) (λ _ tokens. parse_list_of (Some i) set tokens) (opening_brace_reader SetMismatch) (λ _ _ _. O i set)
 
 -- what follows a use of a set
 abbrev pub use_then : {X : Type 0} → ℕ → List PartialSet → SetUse → Option PartialSet → (List PartialSet → List Token → Parsed EfgKind X) → List Token → Parsed EfgKind X

@@ -6,7 +6,7 @@ use Rattle.game_core.specs.declared.tree.Action.{Action}
 use Rattle.game_core.specs.declared.token.Token.{Token}
 use Rattle.game_core.specs.declared.token.Token.TheVariants.{Right, Comma, Text, Number}
 use Rattle.file_parts.specs.Reading.{opening_brace_at, closing_brace_at, text_at, number_at, after_comma, payoff_start, texts_at}
-use Rattle.file_parts.specs.Parsing.{Parsed, ◌>>=◌, wanted, passed, parse_each}
+use Rattle.file_parts.specs.Parsing.{Parsed, ◌>>=◌, wanted, expected_mark, parse_each}
 use Rattle.file_parts.proofs.ReaderLemmas.{IsReader, token_reader, bind_reader, pure_reader, each_reader, choose, choose_reader, same_reader, ok_err}
 use Rattle.file_parts.proofs.TokenReaderLemmas.{opening_brace_reader, text_reader}
 use Rattle.file_parts.proofs.TokenLaws.{le_passes}
@@ -67,7 +67,7 @@ all_repeated_reader owner (action ∷ actions) = bind_reader (parse_repeated own
 
 -- the brace after them
 abbrev pub list_end : List Token → Parsed EfgKind (Unit {0})
-list_end tokens = passed (if has_text tokens then SetMismatch else Node) tokens (closing_brace_at tokens)
+list_end tokens = expected_mark (if has_text tokens then SetMismatch else Node) tokens (closing_brace_at tokens)
 
 list_end_token : (t : Token) → ((x : Unit {0}) × ((rest : List Token) → list_end (t ∷ rest) ≡ Ok (x, rest))) ⊎ ((k : EfgKind) × ((rest : List Token) → list_end (t ∷ rest) ≡ Err (k, t ∷ rest)))
 list_end_token Right = inl (tt, λ rest. refl)
@@ -81,7 +81,7 @@ list_end_reader = token_reader list_end (record { token = Right; value = tt; is_
 pub repeated_list_reader : (owner : Option ℕ) (actions : List Action) → IsReader (parse_repeated_list owner actions)
 unfolding parse_repeated_list
 repeated_list_reader owner actions =
-    bind_reader (λ tokens. passed Node tokens (opening_brace_at tokens)) (λ _ tokens. parse_all_repeated owner actions tokens >>= λ following. list_end following.1) (opening_brace_reader Node)
+    bind_reader (λ tokens. expected_mark Node tokens (opening_brace_at tokens)) (λ _ tokens. parse_all_repeated owner actions tokens >>= λ following. list_end following.1) (opening_brace_reader Node)
     (λ _ _ _. bind_reader (parse_all_repeated owner actions) (λ _ tokens. list_end tokens) (all_repeated_reader owner actions) (λ _ _ _. list_end_reader))
 
 -- ---- payoffs
@@ -163,7 +163,7 @@ payoffs_end_reader = token_reader parse_payoffs_end (record { token = Right; val
 pub first_payoffs_reader : (players : ℕ) → IsReader (parse_first_payoffs players)
 unfolding parse_first_payoffs
 first_payoffs_reader players =
-    bind_reader (λ tokens. passed OutcomeMismatch tokens (opening_brace_at tokens)) (λ _ tokens. parse_each parse_payoff 0 players tokens >>= λ payoffs. parse_payoffs_end payoffs.1 >>= λ rest. Ok (payoffs.0, rest.1)) (opening_brace_reader OutcomeMismatch)
+    bind_reader (λ tokens. expected_mark OutcomeMismatch tokens (opening_brace_at tokens)) (λ _ tokens. parse_each parse_payoff 0 players tokens >>= λ payoffs. parse_payoffs_end payoffs.1 >>= λ rest. Ok (payoffs.0, rest.1)) (opening_brace_reader OutcomeMismatch)
     (λ _ _ _. bind_reader (λ tokens. parse_each parse_payoff 0 players tokens) (λ payoffs tokens. parse_payoffs_end tokens >>= λ rest. Ok (payoffs, rest.1)) (each_reader parse_payoff payoff_reader 0 players)
     (λ _ payoffs _. bind_reader parse_payoffs_end (λ _ tokens. Ok (payoffs, tokens)) payoffs_end_reader (λ _ _ _. pure_reader payoffs)))
 
@@ -213,7 +213,7 @@ same_payoffs_reader i (payoff ∷ payoffs) = bind_reader (parse_same_payoff i pa
 pub repeated_payoffs_reader : (payoffs : List ℚ) → IsReader (parse_repeated_payoffs payoffs)
 unfolding parse_repeated_payoffs
 repeated_payoffs_reader payoffs =
-    bind_reader (λ tokens. passed Node tokens (opening_brace_at tokens)) (λ _ tokens. parse_same_payoffs 0 payoffs tokens >>= λ following. parse_payoffs_end following.1) (opening_brace_reader Node)
+    bind_reader (λ tokens. expected_mark Node tokens (opening_brace_at tokens)) (λ _ tokens. parse_same_payoffs 0 payoffs tokens >>= λ following. parse_payoffs_end following.1) (opening_brace_reader Node)
     (λ _ _ _. bind_reader (parse_same_payoffs 0 payoffs) (λ _ tokens. parse_payoffs_end tokens) (same_payoffs_reader 0 payoffs) (λ _ _ _. payoffs_end_reader))
 
 -- ---- a player's list

@@ -1,4 +1,5 @@
--- Faults in files of trees: the kind is told by the point of the file at which the tokens before it stop, and by what comes.
+-- Faults in files of trees: the kind is told by the point of the file at which the tokens before it
+-- stop, and by what comes.
 use Rattle.std.specs.Prelude.{ℕ, ◌≤◌, ◌≡◌, ◌≢◌, ◌⊎◌, List, [], ◌∷◌, length, None}
 use Rattle.rational.specs.Rational.{ℚ, ◌+ℚ◌}
 use Rattle.rational.specs.Sum.{sum_to}
@@ -34,12 +35,14 @@ BraceComes rest = (more : List Token) × (rest ≡ Right ∷ more)
 abbrev pub LacksList : List Token → List Token → Type 0
 LacksList before rest = (used : SetUse) × StopsAtSet before used [] [] × (rest ≢ [])
 
--- In a later list of a set's actions a text or the closing brace comes after a whole action, and is too early or too late; or the
--- number of a probability comes, and is another one.
+-- In a later list of a set's actions a text or the closing brace comes after a whole action, and is
+-- too early or too late; or the number of a probability comes, and is another one.
 abbrev pub DiffersFromFirst : List Token → List Token → Type 0
 DiffersFromFirst before rest =
-    (used : SetUse) × (first : ℕ × SetUse) × (later : List (ℕ × SetUse)) × (actions : List Action) × (list : List Token) × StopsAtSet before used (first ∷ later) list
-    × ((HasActions used.owner actions list × (TextComes rest ⊎ BraceComes rest)) ⊎ ((used.owner ≡ None) × WantsProbability actions list × (v : ℚ) × NumberComes v rest))
+    (used : SetUse) × (first : ℕ × SetUse) × (later : List (ℕ × SetUse)) × (actions : List Action)
+    × (list : List Token) × StopsAtSet before used (first ∷ later) list
+    × ((HasActions used.owner actions list × (TextComes rest ⊎ BraceComes rest))
+    ⊎ ((used.owner ≡ None) × WantsProbability actions list × (v : ℚ) × NumberComes v rest))
 
 -- the sum of the probabilities of these actions
 abbrev pub sum_of : List Action → ℚ
@@ -47,22 +50,30 @@ sum_of actions = sum_to (length actions) (probability_at actions)
 
 -- in the first list of a set of chance with this number, after these whole actions
 abbrev pub StopsInChances : List Token → ℕ → List Action → (List Token → Type 0) → Type 0
-StopsInChances before label actions IsList = (used : SetUse) × (list : List Token) × StopsAtSet before used [] list × (used.owner ≡ None) × (used.label ≡ label) × IsList list
+StopsInChances before label actions IsList =
+    (used : SetUse) × (list : List Token) × StopsAtSet before used [] list × (used.owner ≡ None)
+    × (used.label ≡ label) × IsList list
 
--- a probability comes that can be added; or the brace that closes one or more actions comes. This is the sum with it.
+-- a probability comes that can be added; or the brace that closes one or more actions comes. This
+-- is the sum with it.
 abbrev pub SumsTo : List Token → List Token → ℕ → ℚ → Type 0
 SumsTo before rest label sum = (actions : List Action) ×
-    ((StopsInChances before label actions (WantsProbability actions) × (v : ℚ) × NumberComes v rest × AddFits (sum_of actions) v × (sum ≡ sum_of actions +ℚ v))
-    ⊎ (StopsInChances before label actions (HasActions None actions) × (1 ≤ length actions) × BraceComes rest × (sum ≡ sum_of actions)))
+    ((StopsInChances before label actions (WantsProbability actions) × (v : ℚ) × NumberComes v rest
+    × AddFits (sum_of actions) v × (sum ≡ sum_of actions +ℚ v))
+    ⊎ (StopsInChances before label actions (HasActions None actions) × (1 ≤ length actions)
+    × BraceComes rest × (sum ≡ sum_of actions)))
 
 -- ---- outcomes
--- At the first use of an outcome its payoffs are wanted, and something else comes; or in a list of payoffs a number or the closing
--- brace comes, where there are too many or too few, or the number is another one.
+-- At the first use of an outcome its payoffs are wanted, and something else comes; or in a list of
+-- payoffs a number or the closing brace comes, where there are too many or too few, or the number
+-- is another one.
 abbrev pub PaysOtherwise : List Token → List Token → Type 0
 PaysOtherwise before rest =
     (used : OutcomeUse)
     × ((StopsAtOutcome before used [] [] × (rest ≢ []))
-    ⊎ ((earlier : List (ℕ × OutcomeUse)) × (list : List Token) × (s : StopsAtOutcome before used earlier list) × HasPayoffs (length s.tree.players) list × (((v : ℚ) × NumberComes v rest) ⊎ BraceComes rest)))
+    ⊎ ((earlier : List (ℕ × OutcomeUse)) × (list : List Token)
+    × (s : StopsAtOutcome before used earlier list) × HasPayoffs (length s.tree.players) list
+    × (((v : ℚ) × NumberComes v rest) ⊎ BraceComes rest)))
 
 -- ---- kinds
 -- The kinds of faults inside the nodes that have a name of their own.
@@ -71,16 +82,18 @@ IsNodeKind UnknownPlayer before rest = StopsAtPlayer before × WholeComes rest
 IsNodeKind SetMismatch before rest = LacksList before rest ⊎ DiffersFromFirst before rest
 IsNodeKind (Probability label sum) before rest = SumsTo before rest label sum
 IsNodeKind (ProbabilityRange label step) before rest = (actions : List Action) × (v : ℚ)
-    × StopsInChances before label actions (WantsProbability actions) × NumberComes v rest × ¬ (AddFits (sum_of actions) v) × (step ≡ step_of Add (sum_of actions) v)
+    × StopsInChances before label actions (WantsProbability actions) × NumberComes v rest
+    × ¬ (AddFits (sum_of actions) v) × (step ≡ step_of Add (sum_of actions) v)
 IsNodeKind OutcomeMismatch before rest = PaysOtherwise before rest
 IsNodeKind _ before rest = ⊥
 
--- The kind of the fault that these tokens have after those before. Inside the nodes a fault without a name of its own is one of the
--- node's form, and the end is one that comes too early.
+-- The kind of the fault that these tokens have after those before. Inside the nodes a fault without
+-- a name of its own is one of the node's form, and the end is one that comes too early.
 abbrev pub IsKind : EfgKind → List Token → List Token → Type 0
 IsKind Header before rest = IsOpen IsTitle before
 IsKind Players before rest = StopsInPlayers before
-IsKind Node before rest = StopsInNodes before × (rest ≢ []) × ((kind : EfgKind) → IsNodeKind kind before rest → ⊥)
+IsKind Node before rest =
+    StopsInNodes before × (rest ≢ []) × ((kind : EfgKind) → IsNodeKind kind before rest → ⊥)
 IsKind Unfinished before rest = StopsInNodes before × (rest ≡ [])
 IsKind Trailing before rest = IsFile before
 IsKind kind before rest = IsNodeKind kind before rest

@@ -1,4 +1,5 @@
--- Files of trees that stop: tokens that begin a file, and the points of a node at which they may stop.
+-- Files of trees that stop: tokens that begin a file, and the points of a node at which they may
+-- stop.
 use Rattle.std.specs.Prelude.{ℕ, ◌≡◌, List, [], ◌∷◌, ◌++◌, length, codes, Option, Some, None}
 use Rattle.std.specs.List.{flat_map}
 use Rattle.rational.specs.Rational.{ℚ}
@@ -16,11 +17,14 @@ use Rattle.tree_grammar.specs.TreeFile.{IsPartialFile, IsTreeFile, IsInnerPart, 
 abbrev pub IsFile : List Token → Type 0
 IsFile tokens = (tree : GameTree) × IsTreeFile tokens tree
 
--- The tokens begin a file: they can go on to the end of the node in which they stop, and this node agrees with those before it.
--- (To the end of the file they need not go on within the limits on nodes and depth. Numbers may be of any size here, so that a sum
--- of probabilities below 1 can always go on to 1.)
+-- The tokens begin a file: they can go on to the end of the node in which they stop, and this node
+-- agrees with those before it. (To the end of the file they need not go on within the limits on
+-- nodes and depth. Numbers may be of any size here, so that a sum of probabilities below 1 can
+-- always go on to 1.)
 abbrev pub BeginsFile : List Token → Type 0
-BeginsFile tokens = (more : List Token) × (tree : GameTree) × (free : List OpenBranch) × IsPartialFile (tokens ++ more) tree free
+BeginsFile tokens =
+    (more : List Token) × (tree : GameTree) × (free : List OpenBranch)
+    × IsPartialFile (tokens ++ more) tree free
 
 -- ---- the front of a file
 -- the header and the title
@@ -29,22 +33,27 @@ IsTitle = IsTitlePart (codes "EFG") 2
 
 -- the title is whole, and the players are not
 abbrev pub StopsInPlayers : List Token → Type 0
-StopsInPlayers tokens = (title part : List Token) × (tokens ≡ title ++ part) × IsTitle title × IsOpen NamesPlayers part
+StopsInPlayers tokens =
+    (title part : List Token) × (tokens ≡ title ++ part) × IsTitle title × IsOpen NamesPlayers part
 
 -- the title and the players are whole, and nodes are wanted
 abbrev pub StopsInNodes : List Token → Type 0
-StopsInNodes tokens = ((title names more : List Token) × (tokens ≡ title ++ names ++ more) × IsTitle title × NamesPlayers names) × ¬ (IsFile tokens)
+StopsInNodes tokens =
+    ((title names more : List Token) × (tokens ≡ title ++ names ++ more) × IsTitle title
+    × NamesPlayers names) × ¬ (IsFile tokens)
 
 -- ---- points of a node
 -- whole nodes, and after them a node in which the player's number is wanted
 abbrev pub StopsAtPlayer : List Token → Type 0
 StopsAtPlayer tokens =
-    (partial : List Token) × (tree : GameTree) × (free : List OpenBranch) × (name : List ℕ) × IsPartialFile partial tree free
+    (partial : List Token) × (tree : GameTree) × (free : List OpenBranch) × (name : List ℕ)
+    × IsPartialFile partial tree free
     × (tokens ≡ partial ++ Word (codes "p") ∷ Text name ∷ [])
 
--- Whole nodes, and after them a node up to the number of its set, and maybe the set's name. Earlier nodes use the set so, and the
--- list of its actions is partial with these tokens.
-pub record StopsAtSet (tokens : List Token) (used : SetUse) (earlier : List (ℕ × SetUse)) (list : List Token) : Type 0 where
+-- Whole nodes, and after them a node up to the number of its set, and maybe the set's name. Earlier
+-- nodes use the set so, and the list of its actions is partial with these tokens.
+pub record StopsAtSet (tokens : List Token) (used : SetUse) (earlier : List (ℕ × SetUse))
+    (list : List Token) : Type 0 where
   pub partial : List Token
   pub tree : GameTree
   pub free : List OpenBranch
@@ -55,8 +64,10 @@ pub record StopsAtSet (tokens : List Token) (used : SetUse) (earlier : List (ℕ
   pub earlier_are : earlier ≡ uses_of_set (key_of used) (set_uses is_partial.written)
   pub are_tokens : tokens ≡ partial ++ front ++ list
 
--- The same for a node up to the number of its outcome, which is not 0, and maybe the outcome's name.
-pub record StopsAtOutcome (tokens : List Token) (used : OutcomeUse) (earlier : List (ℕ × OutcomeUse)) (list : List Token) : Type 0 where
+-- The same for a node up to the number of its outcome, which is not 0, and maybe the outcome's
+-- name.
+pub record StopsAtOutcome (tokens : List Token) (used : OutcomeUse)
+    (earlier : List (ℕ × OutcomeUse)) (list : List Token) : Type 0 where
   pub partial : List Token
   pub tree : GameTree
   pub free : List OpenBranch
@@ -77,8 +88,11 @@ HasActions owner actions list = list ≡ Left ∷ flat_map (action_tokens owner)
 
 -- after whole actions of chance, the probability of one more is wanted
 abbrev pub WantsProbability : List Action → List Token → Type 0
-WantsProbability actions list = (name : List ℕ) × (list ≡ Left ∷ flat_map (action_tokens None) actions ++ Text name ∷ [])
+WantsProbability actions list =
+    (name : List ℕ) × (list ≡ Left ∷ flat_map (action_tokens None) actions ++ Text name ∷ [])
 
 -- a list of payoffs is partial and not closed
 abbrev pub HasPayoffs : ℕ → List Token → Type 0
-HasPayoffs players list = (inner : List Token) × (list ≡ Left ∷ inner) × IsOpen (λ tokens. (payoffs : List ℚ) × ArePayoffs players tokens (Some payoffs)) list
+HasPayoffs players list =
+    (inner : List Token) × (list ≡ Left ∷ inner)
+    × IsOpen (λ tokens. (payoffs : List ℚ) × ArePayoffs players tokens (Some payoffs)) list

@@ -5,11 +5,12 @@ use Rattle.std.proofs.Math.Seq.{drop-cons}
 use Rattle.std.specs.Prelude.{Ok, Err}
 use Rattle.rational.specs.Rational.{ℚ, zero_ℚ, one_ℚ}
 use Rattle.game_core.specs.declared.tree.Action.{Action}
+use Rattle.file_parts.specs.declared.stop.Unexpected.{Unexpected}
 use Rattle.file_parts.specs.declared.stop.PartStop.{PartStop}
 use Rattle.file_parts.specs.declared.stop.PartStop.TheVariants as part_stops
 use Rattle.file_parts.specs.Reading.{opening_brace_at, text_at, number_at, texts_at}
-use Rattle.file_parts.specs.Parsing.{Parsed, ◌>>=◌, IsPartStop}
-use Rattle.file_parts.proofs.ParseLemmas.{refused_first}
+use Rattle.file_parts.specs.Parsing.{Parsed, ◌>>=◌, unexpected_at, IsFaultOf, IsPartStop}
+use Rattle.file_parts.proofs.ParseLemmas.{refused_first, fault_first}
 use Rattle.file_parts.proofs.ReaderLemmas.{chain, ok_same}
 use Rattle.file_parts.proofs.TokenLaws.{text_is, number_is}
 use Rattle.tree_grammar.specs.TreeParsing.{own_action, sum_with, parse_chances, parse_closed, parse_own_list, parse_chance_list, parse_first_list, parse_repeated, parse_all_repeated}
@@ -43,7 +44,7 @@ summed_goes_on set front sum next prob name tokens after rest total t n may so_f
 
 -- its probability may not follow
 pub summed_stops : (set : ℕ) (front : List Action) (sum prob : ℚ) (kind : EfgKind) (name : List ℕ) (tokens after rest : List Token) (stopped : PartStop EfgKind) (total : Summed) → text_at tokens ≡ Some (name, after) → number_at after ≡ Some (prob, rest) → Err kind ≡ sum_with set sum prob
-    → stopped ≡ part_stops.Unexpected kind (length after) → after_actions front (parse_chances set sum tokens) ≡ total → IsPartStop stopped total
+    → stopped ≡ part_stops.Unexpected (unexpected_at kind after) → after_actions front (parse_chances set sum tokens) ≡ total → IsPartStop stopped total
 summed_stops set front sum prob kind name tokens after rest stopped total t n may u so_far =
     let step : after_actions front (parse_chances set sum tokens) ≡ Err (kind, after) = rw (text_is tokens (name, after) t, number_is after (prob, rest) n, ← may) refl in
     rw (u, ← so_far, step) refl
@@ -54,7 +55,7 @@ no_number set sum name (Number prob ∷ rest) e = cc
 no_number set sum name _ e = refl
 
 -- no probability comes
-pub summed_lacks : (set : ℕ) (front : List Action) (sum : ℚ) (name : List ℕ) (tokens after : List Token) (stopped : PartStop EfgKind) (total : Summed) → text_at tokens ≡ Some (name, after) → number_at after ≡ None → stopped ≡ part_stops.Unexpected Node (length after)
+pub summed_lacks : (set : ℕ) (front : List Action) (sum : ℚ) (name : List ℕ) (tokens after : List Token) (stopped : PartStop EfgKind) (total : Summed) → text_at tokens ≡ Some (name, after) → number_at after ≡ None → stopped ≡ part_stops.Unexpected (unexpected_at Node after)
     → after_actions front (parse_chances set sum tokens) ≡ total → IsPartStop stopped total
 summed_lacks set front sum name tokens after stopped total t n u so_far =
     let step : after_actions front (parse_chances set sum tokens) ≡ Err (Node, after) = rw (text_is tokens (name, after) t, no_number set sum name after n) refl in
@@ -95,16 +96,16 @@ repeats_go_on owner actions i action tokens after total lt is one so_far =
     sym step ∙ so_far
 
 -- one was not
-pub repeats_stop : (owner : Option ℕ) (actions : List Action) (i : ℕ) (action : Action) (tokens : List Token) (stopped : PartStop EfgKind) (total : Parsed EfgKind (Unit {0})) → i < length actions → action ≡ get_or actions i action → IsPartStop stopped (parse_repeated owner action tokens)
-    → parse_all_repeated owner (drop i actions) tokens ≡ total → IsPartStop stopped total
-repeats_stop owner actions i action tokens stopped total lt is r so_far =
-    rw (← so_far, next_repeated owner actions i action tokens lt is) (refused_first stopped (parse_repeated owner action tokens) _ r)
+pub repeats_stop : (owner : Option ℕ) (actions : List Action) (i : ℕ) (action : Action) (tokens : List Token) (fault : Unexpected EfgKind) (total : Parsed EfgKind (Unit {0})) → i < length actions → action ≡ get_or actions i action → IsFaultOf fault (parse_repeated owner action tokens)
+    → parse_all_repeated owner (drop i actions) tokens ≡ total → IsFaultOf fault total
+repeats_stop owner actions i action tokens fault total lt is r so_far =
+    rw (← so_far, next_repeated owner actions i action tokens lt is) (fault_first fault (parse_repeated owner action tokens) _ r)
 
 pub ruleset repeat_steps = (repeats_go_on, repeats_stop)
 
 -- ---- first lists
 -- no list comes
-pub first_lacks : (owner : Option ℕ) (set : ℕ) (tokens : List Token) (stopped : PartStop EfgKind) → opening_brace_at tokens ≡ None → stopped ≡ part_stops.Unexpected SetMismatch (length tokens) → IsPartStop stopped (parse_first_list owner set tokens)
+pub first_lacks : (owner : Option ℕ) (set : ℕ) (tokens : List Token) (stopped : PartStop EfgKind) → opening_brace_at tokens ≡ None → stopped ≡ part_stops.Unexpected (unexpected_at SetMismatch tokens) → IsPartStop stopped (parse_first_list owner set tokens)
 unfolding parse_first_list
 first_lacks owner set tokens stopped none u = rw (none, u) refl
 
@@ -118,13 +119,13 @@ unfolding parse_first_list
 first_chance owner set tokens inner o l = rw (o, l) refl
 
 -- a player's list that is not closed, and one that is
-pub own_open : (owner : Option ℕ) (i set n : ℕ) (tokens inner following : List Token) (actions : List Action) (stopped : PartStop EfgKind) → owner ≡ Some i → opening_brace_at tokens ≡ Some inner → ◌≡◌ {A = Parsed EfgKind (List Action)} (Ok (map own_action (texts_at inner).0, (texts_at inner).1)) (Ok (actions, following)) → n ≡ length actions
-    → IsPartStop stopped (parse_closed n following) → IsPartStop stopped (parse_first_list owner set tokens)
-own_open owner i set n tokens inner following actions stopped o l a e r =
+pub own_open : (owner : Option ℕ) (i set n : ℕ) (tokens inner following : List Token) (actions : List Action) (fault : Unexpected EfgKind) (stopped : PartStop EfgKind) → owner ≡ Some i → opening_brace_at tokens ≡ Some inner → ◌≡◌ {A = Parsed EfgKind (List Action)} (Ok (map own_action (texts_at inner).0, (texts_at inner).1)) (Ok (actions, following)) → n ≡ length actions
+    → stopped ≡ part_stops.Unexpected fault → IsFaultOf fault (parse_closed n following) → IsPartStop stopped (parse_first_list owner set tokens)
+own_open owner i set n tokens inner following actions fault stopped o l a e u r =
     let same : (map own_action (texts_at inner).0, (texts_at inner).1) ≡ (actions, following) = ok_same (map own_action (texts_at inner).0, (texts_at inner).1) (actions, following) a in
     let size : n ≡ length (map own_action (texts_at inner).0) = e ∙ sym (ap (λ (x : List Action × List Token). length x.0) same) in
     let rest : following ≡ (texts_at inner).1 = sym (ap (λ (x : List Action × List Token). x.1) same) in
-    rw (first_own owner i set tokens inner o l, own_list_by n inner size) (refused_first stopped (parse_closed n (texts_at inner).1) _ (subst (λ (q : List Token). IsPartStop stopped (parse_closed n q)) rest r))
+    rw (u, first_own owner i set tokens inner o l, own_list_by n inner size) (fault_first fault (parse_closed n (texts_at inner).1) _ (subst (λ (q : List Token). IsFaultOf fault (parse_closed n q)) rest r))
 
 pub own_closed : (owner : Option ℕ) (i set n : ℕ) (tokens inner following rest : List Token) (actions : List Action) → owner ≡ Some i → opening_brace_at tokens ≡ Some inner → ◌≡◌ {A = Parsed EfgKind (List Action)} (Ok (map own_action (texts_at inner).0, (texts_at inner).1)) (Ok (actions, following)) → n ≡ length actions
     → parse_closed n following ≡ Ok (tt, rest) → parse_first_list owner set tokens ≡ Ok (actions, rest)
@@ -139,14 +140,14 @@ pub chance_stops : (owner : Option ℕ) (set : ℕ) (tokens inner : List Token) 
 unfolding parse_chance_list
 chance_stops owner set tokens inner stopped o l r = rw (first_chance owner set tokens inner o l) (refused_first stopped (parse_chances set zero_ℚ inner) _ r)
 
-pub chance_open : (owner : Option ℕ) (set n : ℕ) (tokens inner following : List Token) (actions : List Action) (sum : ℚ) (stopped : PartStop EfgKind) → owner ≡ None → opening_brace_at tokens ≡ Some inner → parse_chances set zero_ℚ inner ≡ Ok ((actions, sum), following) → n ≡ length actions
-    → IsPartStop stopped (parse_closed n following) → IsPartStop stopped (parse_first_list owner set tokens)
+pub chance_open : (owner : Option ℕ) (set n : ℕ) (tokens inner following : List Token) (actions : List Action) (sum : ℚ) (fault : Unexpected EfgKind) (stopped : PartStop EfgKind) → owner ≡ None → opening_brace_at tokens ≡ Some inner → parse_chances set zero_ℚ inner ≡ Ok ((actions, sum), following) → n ≡ length actions
+    → stopped ≡ part_stops.Unexpected fault → IsFaultOf fault (parse_closed n following) → IsPartStop stopped (parse_first_list owner set tokens)
 unfolding parse_chance_list
-chance_open owner set n tokens inner following actions sum stopped o l a e r =
-    rw (first_chance owner set tokens inner o l, a) (refused_first stopped (parse_closed (length actions) following) _ (subst (λ (m : ℕ). IsPartStop stopped (parse_closed m following)) e r))
+chance_open owner set n tokens inner following actions sum fault stopped o l a e u r =
+    rw (u, first_chance owner set tokens inner o l, a) (fault_first fault (parse_closed (length actions) following) _ (subst (λ (m : ℕ). IsFaultOf fault (parse_closed m following)) e r))
 
 pub chance_differs : (owner : Option ℕ) (set n : ℕ) (tokens inner following rest : List Token) (actions : List Action) (sum : ℚ) (stopped : PartStop EfgKind) → owner ≡ None → opening_brace_at tokens ≡ Some inner → parse_chances set zero_ℚ inner ≡ Ok ((actions, sum), following) → n ≡ length actions
-    → parse_closed n following ≡ Ok (tt, rest) → eq_ℚ sum one_ℚ ≡ false → stopped ≡ part_stops.Unexpected (Probability set sum) (length following) → IsPartStop stopped (parse_first_list owner set tokens)
+    → parse_closed n following ≡ Ok (tt, rest) → eq_ℚ sum one_ℚ ≡ false → stopped ≡ part_stops.Unexpected (unexpected_at (Probability set sum) following) → IsPartStop stopped (parse_first_list owner set tokens)
 unfolding parse_chance_list
 chance_differs owner set n tokens inner following rest actions sum stopped o l a e c t u =
     let closed : parse_closed (length actions) following ≡ Ok (tt, rest) = subst (λ (m : ℕ). parse_closed m following ≡ Ok (tt, rest)) e c in

@@ -1,5 +1,5 @@
 -- Numbers of tokens are short, so each whole number that comes is below 2^64.
-use Rattle.std.proofs.Common.{◌≡◌, ℕ, ◌<◌, ◌≤◌, false, nat_eq, nat_le, List, ◌∷◌, length, Some, None, inl, inr, refl, sym, ap, ◌∙◌, subst, arith}
+use Rattle.std.proofs.Common.{◌≡◌, ℕ, ◌<◌, ◌≤◌, false, nat_eq, nat_le, List, ◌∷◌, Some, None, inl, inr, refl, sym, ap, ◌∙◌, subst, arith}
 use Rattle.std.proofs.lemmas.Bool.Decides.{nat_tests}
 use Rattle.std.specs.Prelude.{Ok}
 use Rattle.std.specs.List.{AllByRecursion}
@@ -9,7 +9,7 @@ use Rattle.file_parts.specs.declared.stop.PartStop.{PartStop}
 use Rattle.file_parts.specs.declared.stop.PartStop.TheVariants.{Unexpected}
 use Rattle.file_parts.specs.Parts.{whole_number}
 use Rattle.file_parts.specs.Reading.{whole_at, label_at, count_at}
-use Rattle.file_parts.specs.Parsing.{IsPartStop}
+use Rattle.file_parts.specs.Parsing.{unexpected_at, IsPartStop}
 use Rattle.file_parts.proofs.TokenLaws.{whole_is, label_again, le_passes}
 use Rattle.file_parts.proofs.TokenReaderLemmas.{some_or_none}
 use Rattle.written_trees.specs.Building.{PartialOutcome}
@@ -44,7 +44,7 @@ positive_zero tokens rest n short e h = let no : nat_le 1 n ≡ false = grind (a
 pub ruleset positives = (positive_lacks, positive_so, positive_zero)
 
 -- ---- the number of an outcome
-pub outcome_lacks : (players : ℕ) (outcomes : List PartialOutcome) (tokens : List Token) (stopped : PartStop EfgKind) → AllByRecursion IsShortToken tokens → label_at tokens ≡ None → stopped ≡ Unexpected Node (length tokens) → IsPartStop stopped (parse_outcome players outcomes tokens)
+pub outcome_lacks : (players : ℕ) (outcomes : List PartialOutcome) (tokens : List Token) (stopped : PartStop EfgKind) → AllByRecursion IsShortToken tokens → label_at tokens ≡ None → stopped ≡ Unexpected (unexpected_at Node tokens) → IsPartStop stopped (parse_outcome players outcomes tokens)
 unfolding parse_outcome
 outcome_lacks players outcomes tokens stopped short e u = rw (← label_fits tokens short, e, u) refl
 

@@ -4,10 +4,9 @@ use Rattle.std.proofs.Math.Seq.{drop-cons}
 use Rattle.std.proofs.lemmas.List.{drop_all}
 use Rattle.std.specs.Prelude.{Ok, Err}
 use Rattle.rational.specs.Rational.{ℚ, zero_ℚ}
-use Rattle.file_parts.specs.declared.stop.PartStop.{PartStop}
-use Rattle.file_parts.specs.declared.stop.PartStop.TheVariants as part_stops
+use Rattle.file_parts.specs.declared.stop.Unexpected.{Unexpected}
 use Rattle.file_parts.specs.Reading.{payoff_start, payoff_at}
-use Rattle.file_parts.specs.Parsing.{Parsed, ◌>>=◌, IsPartStop}
+use Rattle.file_parts.specs.Parsing.{Parsed, ◌>>=◌, unexpected_at, IsFaultOf}
 use Rattle.tree_grammar.specs.TreeParsing.{closes, parse_same_payoff, parse_same_payoffs}
 use Rattle.tree_grammar.specs.declared.kinds.EfgKind.{EfgKind}
 use Rattle.tree_grammar.specs.declared.kinds.EfgKind.TheVariants.{Node, OutcomeMismatch}
@@ -33,18 +32,18 @@ repeated_goes_on payoffs i tokens own one after total lt h same so_far =
     sym next ∙ so_far
 
 -- none comes next
-pub repeated_ends : (payoffs : List ℚ) (i : ℕ) (tokens : List Token) (stopped : PartStop EfgKind) (total : Passed) → i < length payoffs → payoff_at i tokens ≡ None → stopped ≡ part_stops.Unexpected (if closes (payoff_start i tokens) then OutcomeMismatch else Node) (length (payoff_start i tokens))
-    → parse_same_payoffs i (drop i payoffs) tokens ≡ total → IsPartStop stopped total
+pub repeated_ends : (payoffs : List ℚ) (i : ℕ) (tokens : List Token) (fault : Unexpected EfgKind) (total : Passed) → i < length payoffs → payoff_at i tokens ≡ None → fault ≡ unexpected_at (if closes (payoff_start i tokens) then OutcomeMismatch else Node) (payoff_start i tokens)
+    → parse_same_payoffs i (drop i payoffs) tokens ≡ total → IsFaultOf fault total
 unfolding parse_same_payoff
-repeated_ends payoffs i tokens stopped total lt h u so_far =
+repeated_ends payoffs i tokens fault total lt h u so_far =
     let next : parse_same_payoffs i (drop i payoffs) tokens ≡ Err ((if closes (payoff_start i tokens) then OutcomeMismatch else Node), payoff_start i tokens) = rw (one_repeated payoffs i tokens zero_ℚ lt, h) refl in
     rw (u, ← so_far, next) refl
 
 -- another one comes next
-pub repeated_differs : (payoffs : List ℚ) (i : ℕ) (tokens : List Token) (own one : ℚ) (after : List Token) (stopped : PartStop EfgKind) (total : Passed) → i < length payoffs → payoff_at i tokens ≡ Some (one, after) → eq_ℚ one (get_or payoffs i own) ≡ false
-    → stopped ≡ part_stops.Unexpected OutcomeMismatch (length (payoff_start i tokens)) → parse_same_payoffs i (drop i payoffs) tokens ≡ total → IsPartStop stopped total
+pub repeated_differs : (payoffs : List ℚ) (i : ℕ) (tokens : List Token) (own one : ℚ) (after : List Token) (fault : Unexpected EfgKind) (total : Passed) → i < length payoffs → payoff_at i tokens ≡ Some (one, after) → eq_ℚ one (get_or payoffs i own) ≡ false
+    → fault ≡ unexpected_at OutcomeMismatch (payoff_start i tokens) → parse_same_payoffs i (drop i payoffs) tokens ≡ total → IsFaultOf fault total
 unfolding parse_same_payoff
-repeated_differs payoffs i tokens own one after stopped total lt h other u so_far =
+repeated_differs payoffs i tokens own one after fault total lt h other u so_far =
     let next : parse_same_payoffs i (drop i payoffs) tokens ≡ Err (OutcomeMismatch, payoff_start i tokens) = rw (one_repeated payoffs i tokens own lt, h, other) refl in
     rw (u, ← so_far, next) refl
 

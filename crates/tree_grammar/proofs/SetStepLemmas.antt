@@ -9,7 +9,7 @@ use Rattle.std.proofs.Math.Seq.{map-set_same}
 use Rattle.file_parts.specs.declared.stop.PartStop.{PartStop}
 use Rattle.file_parts.specs.declared.stop.PartStop.TheVariants.{Unexpected}
 use Rattle.file_parts.specs.Reading.{optional_text_at, count_at}
-use Rattle.file_parts.specs.Parsing.{IsPartStop}
+use Rattle.file_parts.specs.Parsing.{unexpected_at, IsPartStop}
 use Rattle.file_parts.proofs.ParseLemmas.{refused_first}
 use Rattle.file_parts.proofs.ReaderLemmas.{chain}
 use Rattle.written_trees.specs.Described.{SetKey, same_set}
@@ -81,7 +81,7 @@ count_found sets s set e =
     (slice_get-map (λ (set : PartialSet). length set.actions) (map partial_set sets) s ∙ ap (option_map (λ (set : PartialSet). length set.actions)) (slice_get-map partial_set sets s ∙ ap (option_map partial_set) e))
 
 -- no number comes
-pub step_without : (k : ℕ) (sets : List PartialSet) (owner : Option ℕ) (tokens : List Token) (stopped : PartStop EfgKind) → count_at tokens ≡ None → stopped ≡ Unexpected Node (length tokens) → IsPartStop stopped (parse_set k sets owner tokens)
+pub step_without : (k : ℕ) (sets : List PartialSet) (owner : Option ℕ) (tokens : List Token) (stopped : PartStop EfgKind) → count_at tokens ≡ None → stopped ≡ Unexpected (unexpected_at Node tokens) → IsPartStop stopped (parse_set k sets owner tokens)
 unfolding parse_set
 step_without k sets owner tokens stopped none u = rw (none, u) refl
 

@@ -11,8 +11,8 @@ use Rattle.game_core.specs.declared.tree.Action.{Action}
 use Rattle.game_core.specs.declared.token.Token.{Token}
 use Rattle.game_core.specs.declared.token.Token.TheVariants.{Left, Text, Number}
 use Rattle.file_parts.specs.Reading.{opening_brace_at, closing_brace_at, number_at, whole_at, optional_text_at, payoff_start, payoff_at, texts_at, count_at}
-use Rattle.file_parts.proofs.ValueLemmas.{payoffs_at, value, value_wanted, value_passed, value_chain, value_if, value_each}
-use Rattle.file_parts.specs.Parsing.{passed, parse_each}
+use Rattle.file_parts.proofs.ValueLemmas.{payoffs_at, value, value_wanted, value_expected_mark, value_chain, value_if, value_each}
+use Rattle.file_parts.specs.Parsing.{expected_mark, parse_each}
 use Rattle.file_parts.proofs.TokenReaderLemmas.{some_or_none}
 use Rattle.written_trees.specs.Described.{SetKey, same_set, IsActionList}
 use Rattle.written_trees.specs.Building.{PartialSet, PartialOutcome, key_of_partial, set_place, outcome_place, new_set, used_set, new_outcome, used_outcome, add_test, may_follow}
@@ -45,7 +45,7 @@ both_marks None f = refl
 both_marks (Some rest) f = refl
 
 -- a mark that must come
-value_mark : (kind : EfgKind) (tokens : List Token) (o : Option (List Token)) → value (passed kind tokens o) ≡ (o >>= mark)
+value_mark : (kind : EfgKind) (tokens : List Token) (o : Option (List Token)) → value (expected_mark kind tokens o) ≡ (o >>= mark)
 value_mark kind tokens None = refl
 value_mark kind tokens (Some rest) = refl
 
@@ -79,7 +79,7 @@ value_chance_list : (set : ℕ) (tokens : List Token) → value (parse_chance_li
 unfolding parse_chance_list
 value_chance_list set tokens =
     value_chain (parse_chances set zero_ℚ tokens) (summed_at zero_ℚ tokens) _ closed_sum (value_chances set zero_ℚ tokens) (λ x.
-    value_passed Node x.1 (closed_at (length x.0.0) x.1) _ _ (λ rest. value_if (eq_ℚ x.0.1 one_ℚ) (Ok (x.0.0, rest)) (Err (Probability set x.0.1, x.1)) (Some (x.0.0, rest)) None refl refl))
+    value_expected_mark Node x.1 (closed_at (length x.0.0) x.1) _ _ (λ rest. value_if (eq_ℚ x.0.1 one_ℚ) (Ok (x.0.0, rest)) (Err (Probability set x.0.1, x.1)) (Some (x.0.0, rest)) None refl refl))
 
 value_own_list : (i : ℕ) (inner : List Token) → value (parse_own_list inner) ≡ first_list_at (Some i) (Left ∷ inner)
 unfolding parse_own_list
@@ -88,7 +88,7 @@ value_own_list i inner =
     let following : List Token = (texts_at inner).1 in
     let n : length (texts_at inner).0 ≡ length actions = sym (length-map (texts_at inner).0 own_action) in
     let read = own_list_is (Some i) i (length (texts_at inner).0) (Left ∷ inner) inner following actions (closed_at (length (texts_at inner).0) following) refl refl refl n refl in
-    value_passed Node following (closed_at (length (texts_at inner).0) following) _ (λ rest. Some (actions, rest)) (λ rest. refl) ∙ sym read
+    value_expected_mark Node following (closed_at (length (texts_at inner).0) following) _ (λ rest. Some (actions, rest)) (λ rest. refl) ∙ sym read
 
 pub value_first_list : (owner : Option ℕ) (set : ℕ) (tokens : List Token) → value (parse_first_list owner set tokens) ≡ first_list_at owner tokens
 unfolding parse_first_list
@@ -197,9 +197,9 @@ value_set k sets owner tokens all = elim (some_or_none (count_at tokens)) [
 pub value_first_payoffs : (players : ℕ) (tokens : List Token) → value (parse_first_payoffs players tokens) ≡ payoff_list_at players tokens
 unfolding parse_first_payoffs payoff_list_at
 value_first_payoffs players tokens =
-    value_passed OutcomeMismatch tokens (opening_brace_at tokens) _ _ (λ inner.
+    value_expected_mark OutcomeMismatch tokens (opening_brace_at tokens) _ _ (λ inner.
     value_chain (parse_each parse_payoff 0 players inner) (payoffs_at players inner) _ _ (value_each parse_payoff payoff_at (λ i rest. value_wanted (if closes (payoff_start i rest) then OutcomeMismatch else Node) (payoff_start i rest) (number_at (payoff_start i rest))) 0 players inner) (λ x.
-    value_passed (if has_number x.1 then OutcomeMismatch else Node) x.1 (closing_brace_at x.1) _ _ (λ rest. refl)))
+    value_expected_mark (if has_number x.1 then OutcomeMismatch else Node) x.1 (closing_brace_at x.1) _ _ (λ rest. refl)))
 
 value_same_payoffs : (i : ℕ) (payoffs : List ℚ) (tokens : List Token) → value (parse_same_payoffs i payoffs tokens) ≡ (payoffs_repeated_at i payoffs tokens >>= mark)
 unfolding parse_same_payoff

@@ -9,7 +9,14 @@ use Rattle.tree_grammar.specs.declared.outcomes.Outcomes.TheInside.{Inside as Ke
 
 -- a set, as far as it was used
 abbrev pub partial_set : KeptSet → PartialSet
-partial_set set = record { owner = set.owner; label = set.label; name = set.name; actions = set.actions.items; members = set.members.items }
+partial_set set =
+    record {
+      owner = set.owner;
+      label = set.label;
+      name = set.name;
+      actions = set.actions.items;
+      members = set.members.items;
+    }
 
 -- the sets, as far as they were used
 abbrev pub partial_sets : KeptSets → List PartialSet
@@ -17,11 +24,13 @@ partial_sets sets = map partial_set sets.list.items
 
 -- the keys are those of the sets in order
 pub record AreSets (sets : KeptSets) : Type 0 where
-  pub keys_are : map {B = SetKey} (λ key. (key.owner, key.label)) sets.keys.keys ≡ map {B = SetKey} (λ set. (set.owner, set.label)) sets.list.items
+  pub keys_are : map {B = SetKey} (λ key. (key.owner, key.label)) sets.keys.keys
+      ≡ map {B = SetKey} (λ set. (set.owner, set.label)) sets.list.items
 
 -- an outcome, as far as it was used
 abbrev pub partial_outcome : KeptOutcome → PartialOutcome
-partial_outcome outcome = record { label = outcome.label; name = outcome.name; payoffs = outcome.payoffs.items }
+partial_outcome outcome =
+    record { label = outcome.label; name = outcome.name; payoffs = outcome.payoffs.items }
 
 -- the outcomes, as far as they were used
 abbrev pub partial_outcomes : KeptOutcomes → List PartialOutcome

@@ -1,16 +1,16 @@
 // Lists of actions.
-ghost use Rattle.std.specs.Prelude.{◌≡◌, if◌then◌else◌, List, map, Ok};
+ghost use Rattle.std.specs.Prelude.{◌≡◌, List, map, Ok};
 ghost use Rattle.rational.specs.Rational.{zero_ℚ};
 ghost use Rattle.game_core.specs.declared.tree.Action.{Action as action};
 ghost use Rattle.game_core.specs.declared.token.Token.{Token as token};
 ghost use Rattle.game_core.specs.TokenList.{bare};
 ghost use Rattle.file_parts.specs.Reading.{texts_at};
-ghost use Rattle.file_parts.specs.Parsing.{Parses};
+ghost use Rattle.file_parts.specs.Parsing.{Parses, ParsesAlways};
 ghost use Rattle.tree_grammar.specs.TreeParsing.{own_action, sum_with, parse_chances, parse_closed, parse_first_list, parse_repeated, parse_all_repeated, parse_later_list};
-ghost use Rattle.tree_grammar.specs.declared.kinds.EfgKind.TheVariants.{Node, SetMismatch};
 
 use crate::kinds::EfgKind;
-use file_parts::{PartStop, closing_brace, number, opening_brace, text, unexpected};
+use crate::pieces::kind_or_node;
+use file_parts::{PartStop, Unexpected, closing_brace, number, opening_brace, text, unexpected};
 use frac128::Frac;
 use game_core::{Action, Spanned, copied};
 use std::alloc::Global;
@@ -80,12 +80,13 @@ fn own_actions(
 }
 
 // The tokens after the brace that closes this many actions, which is at least one.
-fn closed(tokens: &[Spanned], count: usize) -> Result<&[Spanned], PartStop<EfgKind>>
-    ensures { Parses (λ rest. (tt, bare rest.now)) result (parse_closed count (bare tokens.now)) }
+fn closed(tokens: &[Spanned], count: usize) -> Result<&[Spanned], Unexpected<EfgKind>>
+    ensures { ParsesAlways (λ rest. (tt, bare rest.now)) result
+        (parse_closed count (bare tokens.now)) }
 {
     match closing_brace(tokens) {
         Some(rest) if count >= 1 => Ok(rest),
-        _ => Err(unexpected(EfgKind::Node, tokens)),
+        _ => Err(Unexpected::first_of(EfgKind::Node, tokens)),
     }
 }
 
@@ -120,37 +121,27 @@ pub(crate) fn first_list(
     }
 }
 
-// The kind of the fault where a text is wanted, or not wanted, and another token comes.
-fn mismatch_or_node(differs: bool) -> EfgKind
-    ensures { result ≡ (if differs then SetMismatch else Node) }
-{
-    if differs {
-        EfgKind::SetMismatch
-    } else {
-        EfgKind::Node
-    }
-}
-
 // The tokens after an action that repeats this one.
 #[tactic(auto, unfolding(crate::specs::TreeParsing::parse_repeated))]
 fn repeated<'a>(
     tokens: &'a [Spanned],
     owner: Option<u32>,
     action: &Action,
-) -> Result<&'a [Spanned], PartStop<EfgKind>>
-    ensures { Parses (λ rest. (tt, bare rest.now)) result
+) -> Result<&'a [Spanned], Unexpected<EfgKind>>
+    ensures { ParsesAlways (λ rest. (tt, bare rest.now)) result
         (parse_repeated owner action.now (bare tokens.now)) }
 {
     let Some((_, after)) = text(tokens) else {
-        return Err(unexpected(mismatch_or_node(closing_brace(tokens).is_some()), tokens));
+        let kind = kind_or_node(closing_brace(tokens).is_some(), EfgKind::SetMismatch);
+        return Err(Unexpected::first_of(kind, tokens));
     };
     if owner.is_some() {
         return Ok(after);
     }
     match number(after) {
         Some((prob, rest)) if prob == action.prob => Ok(rest),
-        Some(_) => Err(unexpected(EfgKind::SetMismatch, after)),
-        None => Err(unexpected(EfgKind::Node, after)),
+        Some(_) => Err(Unexpected::first_of(EfgKind::SetMismatch, after)),
+        None => Err(Unexpected::first_of(EfgKind::Node, after)),
     }
 }
 
@@ -160,8 +151,8 @@ fn all_repeated<'a>(
     tokens: &'a [Spanned],
     owner: Option<u32>,
     actions: &[Action],
-) -> Result<&'a [Spanned], PartStop<EfgKind>>
-    ensures { Parses (λ rest. (tt, bare rest.now)) result
+) -> Result<&'a [Spanned], Unexpected<EfgKind>>
+    ensures { ParsesAlways (λ rest. (tt, bare rest.now)) result
         (parse_all_repeated owner actions.now (bare tokens.now)) }
 {
     let mut rest = tokens;
@@ -172,13 +163,13 @@ fn all_repeated<'a>(
 }
 
 /// The tokens after the actions of a later use, which may come, and repeat these.
-#[tactic(auto, using(file_parts::proofs::ParseLemmas::refused_first), unfolding(crate::specs::TreeParsing::parse_repeated_list))]
+#[tactic(auto, using(file_parts::proofs::ParseLemmas::fault_first), unfolding(crate::specs::TreeParsing::parse_repeated_list))]
 pub(crate) fn later_list<'a>(
     tokens: &'a [Spanned],
     owner: Option<u32>,
     actions: &[Action],
-) -> Result<&'a [Spanned], PartStop<EfgKind>>
-    ensures { Parses (λ rest. (tt, bare rest.now)) result
+) -> Result<&'a [Spanned], Unexpected<EfgKind>>
+    ensures { ParsesAlways (λ rest. (tt, bare rest.now)) result
         (parse_later_list owner actions.now (bare tokens.now)) }
 {
     let Some(inner) = opening_brace(tokens) else {
@@ -187,6 +178,9 @@ pub(crate) fn later_list<'a>(
     let following = all_repeated(inner, owner, actions)?;
     match closing_brace(following) {
         Some(rest) => Ok(rest),
-        None => Err(unexpected(mismatch_or_node(text(following).is_some()), following)),
+        None => {
+            let kind = kind_or_node(text(following).is_some(), EfgKind::SetMismatch);
+            Err(Unexpected::first_of(kind, following))
+        }
     }
 }

@@ -23,7 +23,7 @@ pub struct Front {
 /// # Errors
 ///
 /// The fault's kind and how many tokens are left there; or memory ran out.
-#[tactic(auto, using(file_parts::proofs::ParseLemmas::refused_first), unfolding(crate::specs::TreeParsing::parse_front))]
+#[tactic(auto, using(file_parts::proofs::ParseLemmas::stops), unfolding(crate::specs::TreeParsing::parse_front))]
 pub fn read_front(
     alloc: Global,
     tokens: &[Spanned],

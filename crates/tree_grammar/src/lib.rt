@@ -3,8 +3,8 @@
 //!
 //! Callers may rely on: `files_have_one_tree`; `files_are_read`, in both directions; `read_front`,
 //! `player`, `read_set` and `read_outcome` take off the tokens what the reading function of their
-//! part does, or give a `PartStop` with the fault's kind and the tokens left; `Sets` and `Outcomes`
-//! are seen as lists, in the order of first use.
+//! part does, or give the fault's kind and the tokens left; `Sets` and `Outcomes` are seen as
+//! lists, in the order of first use.
 //! Definitions: `specs::TreeFile` has the grammar, `TreePieces` the words of nodes and the brace
 //! after actions, `TreeParsing` the reading functions, and `UseCodes` how sets and outcomes that
 //! are seen so far are stored, `Texts` how a fault's kind is displayed. What a fault of each kind

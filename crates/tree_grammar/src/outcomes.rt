@@ -2,20 +2,20 @@
 ghost use Rattle.std.specs.Prelude.{◌≡◌, ◌<◌, [], Some, if◌then◌else◌, length, map, option_map, IfOk, OnOk};
 ghost use Rattle.std.specs.List.{AllByRecursion};
 ghost use Rattle.game_core.specs.Spacing.{IsShortToken};
-ghost use Rattle.file_parts.specs.declared.stop.PartStop.TheVariants.{Unexpected};
 ghost use Rattle.game_core.specs.TokenList.{bare};
 ghost use Rattle.file_parts.specs.Reading.{payoff_start};
-ghost use Rattle.file_parts.specs.Parsing.{Parses, parse_each};
+ghost use Rattle.file_parts.specs.Parsing.{Parses, ParsesAlways, parse_each, unexpected_at};
 ghost use Rattle.tree_grammar.specs.TreeParsing.{closes, parse_payoff, parse_payoffs_end, parse_first_payoffs, parse_same_payoffs, parse_later_payoffs, parse_named, parse_outcome};
 ghost use Rattle.tree_grammar.specs.declared.kinds.EfgKind.TheVariants.{Node, OutcomeMismatch};
 ghost use Rattle.std.specs.Option.{option_or};
 ghost use Rattle.written_trees.specs.Building.{finished_outcome};
 
 use crate::kinds::EfgKind;
+use crate::pieces::kind_or_node;
 use crate::sets::{optional_name, or_empty};
 use file_parts::{
-    PartStop, closing_brace, label, number, opening_brace, optional_text, payoff, payoff_start,
-    unexpected,
+    PartStop, Unexpected, closing_brace, label, number, opening_brace, optional_text, payoff,
+    payoff_start, unexpected,
 };
 use frac128::Frac;
 use game_core::{Name, Outcome, Spanned};
@@ -91,36 +91,29 @@ impl Outcomes {
     }
 }
 
-// The kind of the fault at a token: whether the payoffs are too few or too many there, or the token
-// fits no list.
-fn mismatch_or_node(differs: bool) -> EfgKind
-    ensures { result ≡ (if differs then OutcomeMismatch else Node) }
-{
-    if differs {
-        EfgKind::OutcomeMismatch
-    } else {
-        EfgKind::Node
-    }
-}
-
 // That no payoff comes, of which this many came before.
-fn no_payoff(tokens: &[Spanned], index: usize) -> PartStop<EfgKind>
+fn no_payoff(tokens: &[Spanned], index: usize) -> Unexpected<EfgKind>
     ensures { result
-        ≡ Unexpected
+        ≡ unexpected_at
         (if closes (payoff_start index (bare tokens.now)) then OutcomeMismatch else Node)
-        (length (payoff_start index (bare tokens.now))) }
+        (payoff_start index (bare tokens.now)) }
 {
     let start = payoff_start(tokens, index);
-    unexpected(mismatch_or_node(closing_brace(start).is_some()), start)
+    let kind = kind_or_node(closing_brace(start).is_some(), EfgKind::OutcomeMismatch);
+    Unexpected::first_of(kind, start)
 }
 
 // The tokens after the brace that closes payoffs.
-fn closed(tokens: &[Spanned]) -> Result<&[Spanned], PartStop<EfgKind>>
-    ensures { Parses (λ rest. (tt, bare rest.now)) result (parse_payoffs_end (bare tokens.now)) }
+fn closed(tokens: &[Spanned]) -> Result<&[Spanned], Unexpected<EfgKind>>
+    ensures { ParsesAlways (λ rest. (tt, bare rest.now)) result
+        (parse_payoffs_end (bare tokens.now)) }
 {
     match closing_brace(tokens) {
         Some(rest) => Ok(rest),
-        None => Err(unexpected(mismatch_or_node(number(tokens).is_some()), tokens)),
+        None => {
+            let kind = kind_or_node(number(tokens).is_some(), EfgKind::OutcomeMismatch);
+            Err(Unexpected::first_of(kind, tokens))
+        }
     }
 }
 
@@ -138,7 +131,7 @@ fn payoffs(
     let mut rest = tokens;
     for index in 0..players {
         let Some(next) = payoff(rest, index) else {
-            return Err(no_payoff(rest, index));
+            return Err(PartStop::Unexpected(no_payoff(rest, index)));
         };
         payoffs.push(next.0)?;
         rest = next.1;
@@ -147,7 +140,7 @@ fn payoffs(
 }
 
 // The payoffs of an outcome at its first use, and the tokens after them.
-#[tactic(auto, using(file_parts::proofs::ParseLemmas::refused_first), unfolding(crate::specs::TreeParsing::parse_first_payoffs))]
+#[tactic(auto, using(file_parts::proofs::ParseLemmas::stops), unfolding(crate::specs::TreeParsing::parse_first_payoffs))]
 fn first_payoffs(
     alloc: Global,
     tokens: &[Spanned],
@@ -166,8 +159,11 @@ fn first_payoffs(
 
 // The tokens after payoffs that repeat these.
 #[tactic(auto, using(crate::proofs::OutcomeStepLemmas::repeated_steps))]
-fn repeated<'a>(tokens: &'a [Spanned], payoffs: &[Frac]) -> Result<&'a [Spanned], PartStop<EfgKind>>
-    ensures { Parses (λ rest. (tt, bare rest.now)) result
+fn repeated<'a>(
+    tokens: &'a [Spanned],
+    payoffs: &[Frac],
+) -> Result<&'a [Spanned], Unexpected<EfgKind>>
+    ensures { ParsesAlways (λ rest. (tt, bare rest.now)) result
         (parse_same_payoffs 0 payoffs.now (bare tokens.now)) }
 {
     let mut rest = tokens;
@@ -176,7 +172,8 @@ fn repeated<'a>(tokens: &'a [Spanned], payoffs: &[Frac]) -> Result<&'a [Spanned]
             return Err(no_payoff(rest, index));
         };
         if next.0 != *payoff_before {
-            return Err(unexpected(EfgKind::OutcomeMismatch, payoff_start(rest, index)));
+            let start = payoff_start(rest, index);
+            return Err(Unexpected::first_of(EfgKind::OutcomeMismatch, start));
         }
         rest = next.1;
     }
@@ -184,12 +181,12 @@ fn repeated<'a>(tokens: &'a [Spanned], payoffs: &[Frac]) -> Result<&'a [Spanned]
 }
 
 // The tokens after the payoffs of a later use, which may come, and repeat these.
-#[tactic(auto, using(file_parts::proofs::ParseLemmas::refused_first), unfolding(crate::specs::TreeParsing::parse_repeated_payoffs))]
+#[tactic(auto, using(file_parts::proofs::ParseLemmas::fault_first), unfolding(crate::specs::TreeParsing::parse_repeated_payoffs))]
 fn later_payoffs<'a>(
     tokens: &'a [Spanned],
     payoffs: &[Frac],
-) -> Result<&'a [Spanned], PartStop<EfgKind>>
-    ensures { Parses (λ rest. (tt, bare rest.now)) result
+) -> Result<&'a [Spanned], Unexpected<EfgKind>>
+    ensures { ParsesAlways (λ rest. (tt, bare rest.now)) result
         (parse_later_payoffs payoffs.now (bare tokens.now)) }
 {
     let Some(inner) = opening_brace(tokens) else {

@@ -31,9 +31,9 @@ use Rattle.subgames.specs.MadeCuts.{MadeCut}
 use Rattle.subgames.specs.Roots.{IsSubgameRoot}
 use Rattle.subgames.proofs.RootTestLemmas.{root_or_not}
 use Rattle.subgames.proofs.SomeCutLemmas.{some-cut}
-use Rattle.verdicts.specs.TreeSteps.{now_steps_at}
+use Rattle.verdicts.specs.TreeSteps.{behaviour_steps_at}
 use Rattle.two_player_tools.specs.Lp.{solution_in}
-use Rattle.two_player_tools.specs.Perfect.{IsSolvedAt, cut_entries_in, entries_by, entry_payoffs_fit, in_subgame, perfect_in, perfect_text, plans_by, worth_refusal}
+use Rattle.two_player_tools.specs.Perfect.{AreCutsSolvedFrom, IsSolvedAt, cut_entries_in, entries_by, entry_payoffs_fit, in_subgame, perfect_in, perfect_text, plans_by, worth_refusal}
 use Rattle.two_player_tools.specs.TwoPlayers.{tree_form_within, rows_by, two_players}
 use Rattle.two_player_tools.specs.declared.forms.Method.{Method}
 use Rattle.two_player_tools.specs.declared.forms.Method.TheVariants.{LinearProgram, Complementarity}
@@ -65,7 +65,7 @@ entry_payoffs-answered : (method : Method) (t : GameTree) (entries : List ℚ) �
 entry_payoffs-answered method t entries laws w made none =
     let g = game_of_tree t in
     let found = entries_by-equilibrium method t entries laws w made in
-    refused_by-answered (λ stop. payoffs_stop.Range stop.0 stop.1) _ (all_fit-answered (λ i. now_steps_at g found.0 i 0) (range_with_len 0 g.players))
+    refused_by-answered (λ stop. payoffs_stop.Range stop.0 stop.1) _ (all_fit-answered (λ i. behaviour_steps_at g found.0 i 0) (range_with_len 0 g.players))
     (λ answer fit. none answer (found.0, found.2, fit))
 
 -- a cut has entries, or a reason why it has none
@@ -124,19 +124,15 @@ module _ (cut : MadeCut) (found b : Behaviour) (differ : (r q : ℕ) → r < len
   changed (suc n) few = changed-next n ((game_of_tree cut.tree).owner n) (omega (arith, few)) refl (changed n (omega (arith, few)))
 
 -- ---- all cuts
--- the cuts at the nodes from node n on where subgames begin are solved
-abbrev AreSolvedBy : Method → GameTree → (ℕ → ℕ → ℚ) → Behaviour → ℕ → Type 0
-AreSolvedBy method t worth b n = (m : ℕ) → n ≤ m → m < length t.nodes → IsSubgameRoot (game_of_tree t) m → IsSolvedAt method t worth b m
-
 module _ (method : Method) (t : GameTree) (law : SetsStandInOneCut) (laws : TreesAreGames) (w : IsGameTree t) where
   -- where none begins nothing is to be solved
-  passed : (n : ℕ) (worth : ℕ → ℕ → ℚ) (b : Behaviour) → ¬ (IsSubgameRoot (game_of_tree t) n) → AreSolvedBy method t worth b (suc n) → AreSolvedBy method t worth b n
+  passed : (n : ℕ) (worth : ℕ → ℕ → ℚ) (b : Behaviour) → ¬ (IsSubgameRoot (game_of_tree t) n) → AreCutsSolvedFrom method t worth b (suc n) → AreCutsSolvedFrom method t worth b n
   passed n worth b none h m from below begins = elim (cases_eq m n) [
     | inl same ↦ absurd (none (subst (IsSubgameRoot (game_of_tree t)) same begins))
     | inr other ↦ h m (omega (arith, from, other)) below begins
   ]
 
-  module _ (n : ℕ) (worth : ℕ → ℕ → ℚ) (b : Behaviour) (cut : MadeCut) (entries : List ℚ) (root : IsSubgameRoot (game_of_tree t) n) (h : AreSolvedBy method t worth b (suc n)) (is_cut : IsCutAt t n worth cut.nodes cut.sets cut.tree) (answer : cut_entries_in method n cut (Ok entries)) where
+  module _ (n : ℕ) (worth : ℕ → ℕ → ℚ) (b : Behaviour) (cut : MadeCut) (entries : List ℚ) (root : IsSubgameRoot (game_of_tree t) n) (h : AreCutsSolvedFrom method t worth b (suc n)) (is_cut : IsCutAt t n worth cut.nodes cut.sets cut.tree) (answer : cut_entries_in method n cut (Ok entries)) where
     found : (found : Behaviour) × (entries ≡ tree_entries (game_of_tree cut.tree) found)
     found = entries-found method n cut entries laws is_cut.is_cut.is_tree answer
 
@@ -166,7 +162,7 @@ module _ (method : Method) (t : GameTree) (law : SetsStandInOneCut) (laws : Tree
     here-paid i = ap (λ x. cond x (pays i) (worth n i)) (eq-eqb n n refl)
 
     -- one cut more, by its entries
-    solved-more : (new_worth : ℕ → ℕ → ℚ) × (new_b : Behaviour) × AreSolvedBy method t new_worth new_b n
+    solved-more : (new_worth : ℕ → ℕ → ℚ) × (new_b : Behaviour) × AreCutsSolvedFrom method t new_worth new_b n
     solved-more = (
       new_worth,
       new_b.0,
@@ -179,7 +175,7 @@ module _ (method : Method) (t : GameTree) (law : SetsStandInOneCut) (laws : Tree
 
   module _ (none : (answer : Result (List ℚ) Refusal) → ¬ (perfect_in method t answer)) where
     -- where later cuts are solved, those from this node on can be
-    one-more : (n : ℕ) (worth : ℕ → ℕ → ℚ) (b : Behaviour) → n < length t.nodes → AreSolvedBy method t worth b (suc n) → ¬ ¬ ((worth : ℕ → ℕ → ℚ) × (b : Behaviour) × AreSolvedBy method t worth b n)
+    one-more : (n : ℕ) (worth : ℕ → ℕ → ℚ) (b : Behaviour) → n < length t.nodes → AreCutsSolvedFrom method t worth b (suc n) → ¬ ¬ ((worth : ℕ → ℕ → ℚ) × (b : Behaviour) × AreCutsSolvedFrom method t worth b n)
     one-more n worth b below h rest = elim (root_or_not (game_of_tree t) (laws.game_tree t w) n below) [
       | inl root ↦ some-cut t n worth w (laws.game_tree t w) below (λ made. cut_entries_in-answered method n made.0 laws made.1.is_cut.is_tree (by made.0 made.1 root))
       | inr other ↦ rest (worth, b, passed n worth b other h)
@@ -187,11 +183,11 @@ module _ (method : Method) (t : GameTree) (law : SetsStandInOneCut) (laws : Tree
       where
         by : (cut : MadeCut) → IsCutAt t n worth cut.nodes cut.sets cut.tree → IsSubgameRoot (game_of_tree t) n → (answer : Result (List ℚ) Refusal) → ¬ (cut_entries_in method n cut answer)
         by cut is_cut root (Ok entries) answer = rest (solved-more n worth b cut entries root h is_cut answer)
-        by cut is_cut root (Err r) stops = none (Err r) (worth, b, n, below, root, (λ m later. h m (omega (arith, later))), record { cut = cut; is_cut = is_cut; stops = stops })
+        by cut is_cut root (Err r) stops = none (Err r) (worth, b, n, below, root, h, record { cut = cut; is_cut = is_cut; stops = stops })
 
     -- so all can be
-    from-last : (n : ℕ) (worth : ℕ → ℕ → ℚ) (b : Behaviour) → n ≤ length t.nodes → AreSolvedBy method t worth b n → ⊥
-    from-last zero worth b few h = none (Ok (tree_entries (game_of_tree t) b)) (worth, b, (λ m below begins. h m (omega arith) below begins), refl)
+    from-last : (n : ℕ) (worth : ℕ → ℕ → ℚ) (b : Behaviour) → n ≤ length t.nodes → AreCutsSolvedFrom method t worth b n → ⊥
+    from-last zero worth b few h = none (Ok (tree_entries (game_of_tree t) b)) (worth, b, h, refl)
     from-last (suc n) worth b few h = one-more n worth b (omega (arith, few)) h (λ next. from-last n next.0 next.1 (omega (arith, few)) next.2)
 
   -- a tree has entries, or there is the last cut that is not solved

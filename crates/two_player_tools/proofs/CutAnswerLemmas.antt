@@ -10,7 +10,7 @@ use Rattle.game_core.specs.TreeGame.{game_of_tree}
 use Rattle.game_core.specs.declared.game.Game.TheVariants.{Extensive}
 use Rattle.behaviour_profile.specs.Plans.{plan_behaviour}
 use Rattle.behaviour_profile.proofs.PlanStopLemmas.{plan_behaviour-single}
-use Rattle.verdicts.specs.TreeSteps.{now_steps_at}
+use Rattle.verdicts.specs.TreeSteps.{behaviour_steps_at}
 use Rattle.pure_payoffs.specs.declared.stop.PayoffStop.TheVariants as payoffs_stop
 use Rattle.verdicts.proofs.AlikeBehaviourLemmas.{behaviour_payoffs-alike}
 use Rattle.verdicts.proofs.SameEntryLemmas.{entries-alike}
@@ -67,7 +67,7 @@ entry_payoffs_fit-single t entries laws w one other h k =
     let g = game_of_tree t in
     let tree = laws.game_tree t w in
     let alike = entries-alike g h.0 k.0 tree (sym h.1 ∙ k.1) in
-    refused_by-single (λ stop. payoffs_stop.Range stop.0 stop.1) _ (all_fit-single (λ i. now_steps_at g k.0 i 0) (range_with_len 0 g.players)) one other (behaviour_payoffs-alike g h.0 k.0 tree alike one h.2) k.2
+    refused_by-single (λ stop. payoffs_stop.Range stop.0 stop.1) _ (all_fit-single (λ i. behaviour_steps_at g k.0 i 0) (range_with_len 0 g.players)) one other (behaviour_payoffs-alike g h.0 k.0 tree alike one h.2) k.2
 
 -- the answer in a cut
 pub cut_entries_in-single : (method : Method) (n : ℕ) (cut : MadeCut) → TreesAreGames → RecallsAreSingle → IsGameTree cut.tree → IsSingle (cut_entries_in method n cut)

@@ -1,5 +1,5 @@
 -- What is known of the cuts of a tree, as one after another is solved.
-use Rattle.std.proofs.Common.{ℕ, ◌+◌, ◌*◌, ◌<◌, ◌≤◌, ◌≡◌, ◌≢◌, ◌⊎◌, inl, inr, Ok, Err, Result, Option, None, Some, List, [], ◌∷◌, ◌++◌, length, map, get_or, set, refl, sym, ap, ◌∙◌, subst, subst₂, arith}
+use Rattle.std.proofs.Common.{ℕ, ◌+◌, ◌*◌, ◌<◌, ◌≤◌, ◌≡◌, ◌≢◌, ◌⊎◌, inl, inr, Ok, Err, Result, Option, None, Some, List, [], ◌∷◌, ◌++◌, length, map, get_or, set, refl, sym, ap, ◌∙◌, subst, arith}
 use Rattle.std.proofs.Math.Seq.{get_or-append_seam}
 use Rattle.std.proofs.lemmas.Bool.{cases_eq, cases_lt}
 use Rattle.std.proofs.lemmas.List.{get_or_append_left, get_or_default, get_or-map, get_or-set_same, get_or-set_other, length-append, length-set}
@@ -28,7 +28,7 @@ use Rattle.subgames.proofs.CutWorthLemmas.{same_worth}
 use Rattle.verdicts.proofs.AlikeBehaviourLemmas.{AreAlike, tree_entries-alike, value-alike}
 use Rattle.refusals.specs.declared.refusal.Refusal.{Refusal}
 use Rattle.refusals.specs.declared.refusal.Refusal.TheVariants as refusal
-use Rattle.two_player_tools.specs.KnownCuts.{AreKeptTo, AreSolvedFrom, IsRoomFor, behaviour_in, lists_of, worth_in}
+use Rattle.two_player_tools.specs.KnownCuts.{AreKeptTo, AreSolvedFrom, behaviour_in, lists_of, worth_in}
 use Rattle.two_player_tools.specs.Perfect.{IsSolvedAt, IsStoppedAt, cut_entries_in, entries_by, in_subgame, entry_payoffs_fit, perfect_in, worth_refusal}
 use Rattle.two_player_tools.specs.declared.forms.Method.{Method}
 use Rattle.two_player_tools.specs.declared.perfect.Known.{Known}
@@ -159,13 +159,6 @@ row-apart root m k i (inr both) l apart = elim (cases_lt k root) [
   | inr after ↦ inr (subst (λ m. root * m + m ≤ k * 2 + i) (sym both) (omega (arith, after, apart)))
 ]
 
--- there is room for the numbers of a node, which has two or none
-pub row-room : (nodes root players m : ℕ) → players ≡ 2 → root < nodes → (root ≡ 0 → m ≡ 0) → (root ≢ 0 → m ≡ players) → root * m + m ≤ nodes * players
-row-room nodes root players m two below none all = elim (cases_eq root 0) [
-  | inl first ↦ subst (λ m. root * m + m ≤ nodes * players) (sym (none first)) (omega arith)
-  | inr other ↦ subst₂ (λ m players. root * m + m ≤ nodes * players) (sym (all other ∙ two)) (sym two) (omega (arith, below))
-]
-
 -- a node's numbers are kept, and all others are as before
 pub record IsRowKept (root : ℕ) (payoffs old new : List ℚ) : Type 0 where
   pub as_many : length new ≡ length old
@@ -245,10 +238,6 @@ solved-passed method t n known none h = record {
   ];
 }
 
--- past the last node nothing is to be solved
-pub solved-none : (method : Method) (t : GameTree) (known : Known) → IsRoomFor t known → AreSolvedFrom method t (length t.nodes) known
-solved-none method t known room = record { room = room; solved = λ m from below begins. absurd (omega (arith, from, below)) }
-
 -- ---- answers
 -- where a cut is not solved, it is told why
 pub perfect-stop : (method : Method) (t : GameTree) (root : ℕ) (known : Known) (r : Refusal) (answer : Result (List ℚ) Refusal) → root < length t.nodes → IsSubgameRoot (game_of_tree t) root → AreSolvedFrom method t (root + 1) known → (r ≡ refusal.Memory) ⊎ IsStoppedAt method t (worth_in t known) root r → IsErrAnd answer (λ q. q ≡ r) → Gives refusal.Memory (perfect_in method t) answer
@@ -260,7 +249,7 @@ perfect-stop method t root known r answer below begins later why e =
 
 -- where all cuts are solved, so is the tree
 pub perfect-all : (method : Method) (t : GameTree) (known : Known) (entries : List ℚ) → AreSolvedFrom method t 0 known → entries ≡ tree_entries (game_of_tree t) (behaviour_in known) → perfect_in method t (Ok entries)
-perfect-all method t known entries h e = (worth_in t known, behaviour_in known, (λ n below begins. h.solved n (omega arith) below begins), e)
+perfect-all method t known entries h e = (worth_in t known, behaviour_in known, h.solved, e)
 
 -- where a cut has no behaviour, its refusal is told of the tree
 pub cut-unsolved : (method : Method) (n : ℕ) (cut : MadeCut) (r : Refusal) → Gives refusal.Memory (entries_by method cut.tree) (Err r) → Gives refusal.Memory (cut_entries_in method n cut) (Err (in_subgame n cut.nodes r))

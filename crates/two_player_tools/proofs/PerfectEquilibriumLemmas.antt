@@ -109,4 +109,4 @@ module _ (method : Method) (t : GameTree) (law : SetsStandInOneCut) (laws : Tree
 -- each text is the line of such behaviour
 pub perfect_texts : SetsStandInOneCut → TreesAreGames → (method : Method) (t : GameTree) (text : List ℕ) → IsGameTree t → perfect_text method t (Ok text) → IsPerfectText t text
 perfect_texts law laws method t text w (_, _, (_, _, (entries, (worth, b, h, e), is))) =
-    (b, is_perfect method t law laws w worth b h, ok_same text (line_text entries) is ∙ ap line_text e)
+    (b, is_perfect method t law laws w worth b (λ n below root. h n (omega arith) below root), ok_same text (line_text entries) is ∙ ap line_text e)

@@ -1,5 +1,5 @@
 -- What is kept while cuts are solved one after another.
-use Rattle.std.specs.Prelude.{ℕ, ◌<◌, ◌≤◌, ◌≡◌, ◌*◌, List, [], length, map, slice_index, slice_index_or, Some}
+use Rattle.std.specs.Prelude.{ℕ, ◌<◌, ◌≡◌, ◌*◌, List, [], length, map, slice_index, slice_index_or, Some}
 use Rattle.rational.specs.Rational.{ℚ}
 use Rattle.rational.specs.Sum.{entry_at}
 use Rattle.game_theory.specs.Behaviour.{Behaviour}
@@ -7,8 +7,7 @@ use Rattle.game_core.specs.Tree.{GameTree}
 use Rattle.game_core.specs.TreeGame.{game_of_tree}
 use Rattle.behaviour_profile.specs.ListedBehaviour.{HasProbabilities, listed_behaviour}
 use Rattle.subgames.specs.MadeCuts.{MadeCut, worth_at}
-use Rattle.subgames.specs.Roots.{IsSubgameRoot}
-use Rattle.two_player_tools.specs.Perfect.{IsSolvedAt}
+use Rattle.two_player_tools.specs.Perfect.{AreCutsSolvedFrom}
 use Rattle.two_player_tools.specs.declared.forms.Method.{Method}
 use Rattle.two_player_tools.specs.declared.perfect.Known.{Known}
 
@@ -32,11 +31,10 @@ pub record IsRoomFor (t : GameTree) (known : Known) : Type 0 where
 -- the cuts at the nodes from node n on where subgames begin are solved
 pub record AreSolvedFrom (method : Method) (t : GameTree) (n : ℕ) (known : Known) : Type 0 where
   pub room : IsRoomFor t known
-  pub solved : (m : ℕ) → n ≤ m → m < length t.nodes → IsSubgameRoot (game_of_tree t) m
-      → IsSolvedAt method t (worth_in t known) (behaviour_in known) m
+  pub solved : AreCutsSolvedFrom method t (worth_in t known) (behaviour_in known) n
 
--- At the players' sets below number n of a cut the probabilities are those of behaviour `found` there,
--- and at all other sets they are as before.
+-- At the players' sets below number n of a cut the probabilities are those of behaviour `found`
+-- there, and at all other sets they are as before.
 pub record AreKeptTo (cut : MadeCut) (n : ℕ) (found : Behaviour) (old new : List (List ℚ))
     : Type 0 where
   pub as_many : length new ≡ length old

@@ -1,4 +1,5 @@
--- The tool `lp`: an equilibrium of a game of two players with constant sum, and the prices that prove its value.
+-- The tool `lp`: an equilibrium of a game of two players with constant sum, and the prices that
+-- prove its value.
 -- Source: Koller, Megiddo and von Stengel 1996.
 use Rattle.std.specs.Prelude.{ℕ, suc, Bool, true, false, List, [], ◌∷◌, ◌++◌, length, codes}
 use Rattle.answers.specs.Answers.{Answer, only, refuse_where, ◌>>=◌, ◌>>◌, refused_by}
@@ -24,8 +25,8 @@ use Rattle.refusals.specs.declared.refusal.Refusal.TheVariants as refusal
 use Rattle.refusals.specs.declared.site.Site.TheVariants as site
 
 -- ---- the solution
--- the weights of both players' sequences, their prices, of which the first is that of the whole game
--- and the others those of the player's own sets in order, and the value for the first player
+-- the weights of both players' sequences, their prices, of which the first is that of the whole
+-- game and the others those of the player's own sets in order, and the value for the first player
 pub record Solution : Type 0 where
   pub one : List ℚ
   pub two : List ℚ
@@ -80,8 +81,8 @@ solution_text strategic prices game f s = do
   lines ← prices_in prices f s
   only (line_text entries ++ lines)
 
--- The answer of `lp` for the whole game, with a tree's strategies or its behaviour, and with the prices
--- where they are asked for.
+-- The answer of `lp` for the whole game, with a tree's strategies or its behaviour, and with the
+-- prices where they are asked for.
 abbrev pub lp : Bool → Bool → Game → Answer Refusal (List ℕ)
 lp strategic prices game = do
   two_players game

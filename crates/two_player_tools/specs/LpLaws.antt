@@ -1,4 +1,5 @@
--- What each text of `lp` is: an equilibrium of the file's own game, with the prices that prove its value.
+-- What each text of `lp` is: an equilibrium of the file's own game, with the prices that prove its
+-- value.
 use Rattle.std.specs.Prelude.{ℕ, suc, ◌≡◌, Bool, true, false, if◌then◌else◌, List, [], ◌++◌, length, Ok}
 use Rattle.rational.specs.Rational.{ℚ}
 use Rattle.game_theory.specs.Lines.{line_text, listed}
@@ -36,7 +37,8 @@ pub record ProvesValue (f : FormData) (s : Solution) : Type 0 where
   pub second : ℕ → ℚ
   pub first_are : s.prices_one ≡ listed (suc (length f.first.sets)) first
   pub second_are : s.prices_two ≡ listed (suc (length f.second.sets)) second
-  pub proof : IsValueProof (form f) f.least_one (entry_at s.one) (entry_at s.two) first second s.value
+  pub proof : IsValueProof (form f) f.least_one (entry_at s.one) (entry_at s.two) first second
+      s.value
 
 -- a text is that of a solution, whose plans have a weight for each sequence and whose entries are
 -- those of an equilibrium

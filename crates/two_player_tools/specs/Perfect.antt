@@ -1,7 +1,7 @@
 -- The behaviour that a tool finds subgame by subgame, from the last to the first: in each cut a
--- behaviour that solves it, where the ends at which later subgames begin are worth what was found for
--- these. Source: Selten 1965; Kuhn 1953.
-use Rattle.std.specs.Prelude.{ℕ, ◌<◌, ◌≡◌, ◌≢◌, Bool, true, List, length, slice_index, Ok, Err}
+-- behaviour that solves it, where the ends at which later subgames begin are worth what was found
+-- for these. Source: Selten 1965; Kuhn 1953.
+use Rattle.std.specs.Prelude.{ℕ, suc, ◌<◌, ◌≤◌, ◌≡◌, ◌≢◌, Bool, true, List, length, slice_index, Ok, Err}
 use Rattle.answers.specs.Answers.{Answer, by_case, only, ◌>>=◌, ◌>>◌, refused_by}
 use Rattle.rational.specs.Rational.{ℚ}
 use Rattle.game_theory.specs.Behaviour.{Behaviour, payoff}
@@ -48,8 +48,8 @@ entries_by method t = do
   refused_by behaviour_refusal (plan_behaviour t plans.one plans.two)
 
 -- ---- refusals
--- A refusal in the cut at node n as it is told of the tree: a step with the subgame that begins there,
--- and ends by their numbers in the tree.
+-- A refusal in the cut at node n as it is told of the tree: a step with the subgame that begins
+-- there, and ends by their numbers in the tree.
 abbrev pub in_subgame : ℕ → (nodes : List ℕ) → Refusal → Refusal
 in_subgame n nodes (refusal.Range place step) = refusal.SubgameRange n place step
 in_subgame n nodes (refusal.NotConstant sums) =
@@ -68,21 +68,23 @@ worth_refusal n (payoffs_stop.Range player step) =
 worth_refusal n payoffs_stop.Memory = refusal.Memory
 
 -- ---- cuts
--- the steps of what behaviour with these entries pays fit; or the first that does not, with its player
+-- the steps of what behaviour with these entries pays fit; or the first that does not, with its
+-- player
 abbrev pub entry_payoffs_fit : GameTree → List ℚ → Answer PayoffStop (Unit {0})
 entry_payoffs_fit t entries answer =
     (b : Behaviour) × (entries ≡ tree_entries (game_of_tree t) b)
     × behaviour_payoffs_fit (game_of_tree t) b answer
 
--- The entries of the behaviour that a method finds for the cut at node n, which pays each player what
--- can be computed; at the tree's root that is not asked.
+-- The entries of the behaviour that a method finds for the cut at node n, which pays each player
+-- what can be computed; at the tree's root that is not asked.
 abbrev pub cut_entries_in : Method → ℕ → MadeCut → Answer Refusal (List ℚ)
 cut_entries_in method n cut = do
   entries ← refused_by (in_subgame n cut.nodes) (entries_by method cut.tree)
   by_case (n ≡ 0) (only tt) (refused_by (worth_refusal n) (entry_payoffs_fit cut.tree entries))
   only entries
 
--- the cut at node n is solved by behaviour b, and to each player the node is worth what this pays there
+-- the cut at node n is solved by behaviour b, and to each player the node is worth what this pays
+-- there
 pub record IsSolvedAt (method : Method) (t : GameTree) (worth : ℕ → ℕ → ℚ) (b : Behaviour) (n : ℕ)
     : Type 0 where
   pub cut : MadeCut
@@ -92,10 +94,10 @@ pub record IsSolvedAt (method : Method) (t : GameTree) (worth : ℕ → ℕ → 
   pub worth_is : n ≢ 0 → (i : ℕ) → i < length t.players
       → worth n i ≡ payoff (game_of_tree cut.tree) (cut_behaviour cut.sets b) i
 
--- the cuts at later nodes where subgames begin are solved
-abbrev pub AreSolvedAfter : Method → GameTree → (ℕ → ℕ → ℚ) → Behaviour → ℕ → Type 0
-AreSolvedAfter method t worth b n =
-    (m : ℕ) → n < m → m < length t.nodes → IsSubgameRoot (game_of_tree t) m
+-- the cuts at the nodes from node n on where subgames begin are solved
+abbrev pub AreCutsSolvedFrom : Method → GameTree → (ℕ → ℕ → ℚ) → Behaviour → ℕ → Type 0
+AreCutsSolvedFrom method t worth b n =
+    (m : ℕ) → n ≤ m → m < length t.nodes → IsSubgameRoot (game_of_tree t) m
     → IsSolvedAt method t worth b m
 
 -- why the cut at node n is not solved
@@ -106,16 +108,15 @@ pub record IsStoppedAt (method : Method) (t : GameTree) (worth : ℕ → ℕ →
   pub stops : cut_entries_in method n cut (Err r)
 
 -- ---- the tree
--- the entries of behaviour that solves the cut wherever a subgame begins; or why the last cut that is
--- not solved is not
+-- the entries of behaviour that solves the cut wherever a subgame begins; or why the last cut that
+-- is not solved is not
 abbrev pub perfect_in : Method → GameTree → Answer Refusal (List ℚ)
 perfect_in method t (Ok entries) =
-    (worth : ℕ → ℕ → ℚ) × (b : Behaviour)
-    × ((n : ℕ) → n < length t.nodes → IsSubgameRoot (game_of_tree t) n → IsSolvedAt method t worth b n)
+    (worth : ℕ → ℕ → ℚ) × (b : Behaviour) × AreCutsSolvedFrom method t worth b 0
     × (entries ≡ tree_entries (game_of_tree t) b)
 perfect_in method t (Err r) =
     (worth : ℕ → ℕ → ℚ) × (b : Behaviour) × (n : ℕ) × (n < length t.nodes)
-    × IsSubgameRoot (game_of_tree t) n × AreSolvedAfter method t worth b n
+    × IsSubgameRoot (game_of_tree t) n × AreCutsSolvedFrom method t worth b (suc n)
     × IsStoppedAt method t worth n r
 
 -- the line of these entries, of a tree of two players who recall

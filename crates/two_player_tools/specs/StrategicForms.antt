@@ -1,4 +1,5 @@
--- The strategic form of a game: that of a table is the table itself, and that of a tree the table of its reduced form.
+-- The strategic form of a game: that of a table is the table itself, and that of a tree the table
+-- of its reduced form.
 use Rattle.answers.specs.Answers.{Answer, only, ◌>>=◌, refused_by}
 use Rattle.game_core.specs.Table.{GameTable}
 use Rattle.game_core.specs.declared.game.Game.{Game}

@@ -11,7 +11,7 @@ use Rattle.game_core.specs.declared.game.Game.TheVariants.{Strategic, Extensive}
 use Rattle.game_core.specs.declared.too_large.What.TheVariants as what
 use Rattle.perfect_recall.specs.Found.{recall_of}
 use Rattle.sequence_data.specs.Data.{FormData}
-use Rattle.sequence_data.specs.Sizes.{counts_of, problem_rows, program_size}
+use Rattle.sequence_data.specs.Sizes.{stored_sizes, problem_rows, program_size}
 use Rattle.sequence_form.specs.Forms.{tree_form, table_form}
 use Rattle.sequence_form.specs.Laws.{count_of_rows, count_of_columns}
 use Rattle.sequence_form.specs.Sequences.{tree_side, start_side}
@@ -40,11 +40,11 @@ rows_by Complementarity = problem_rows
 
 -- the sizes of the sequence form of a table
 abbrev pub table_counts : GameTable → Counts
-table_counts t = counts_of (start_side (count_of_rows t)) (start_side (count_of_columns t))
+table_counts t = stored_sizes (start_side (count_of_rows t)) (start_side (count_of_columns t))
 
 -- the sizes of the sequence form of a tree
 abbrev pub tree_counts : GameTree → Counts
-tree_counts t = counts_of (tree_side (game_of_tree t) 0) (tree_side (game_of_tree t) 1)
+tree_counts t = stored_sizes (tree_side (game_of_tree t) 0) (tree_side (game_of_tree t) 1)
 
 -- the sequence form of a table, where its problem, whose rows are counted so, is within the limit
 abbrev pub table_form_within : (Counts → ℕ) → GameTable → Answer Refusal FormData
@@ -59,8 +59,8 @@ tree_form_within rows t = do
   refused_by refusal.TooLarge (within what.Rows most_rows (rows (tree_counts t)))
   refused_by sequence_refusal (tree_form t)
 
--- The sequence form on which a tool works: that of the game's strategic form; but of a tree its own,
--- unless strategies are asked for.
+-- The sequence form on which a tool works: that of the game's strategic form; but of a tree its
+-- own, unless strategies are asked for.
 abbrev pub form_in : (Counts → ℕ) → Bool → Game → Answer Refusal FormData
 form_in rows false (Extensive t) = tree_form_within rows t
 form_in rows _ game = do

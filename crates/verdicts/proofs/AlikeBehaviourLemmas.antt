@@ -30,7 +30,7 @@ use Rattle.frac128.specs.declared.steps.Op.TheVariants.{Add}
 use Rattle.pure_payoffs.specs.Steps.{branch_steps, chance_steps}
 use Rattle.behaviour_profile.proofs.BehaviourEntryLemmas.{entries_at-same}
 use Rattle.verdicts.specs.BehaviourPayoffs.{behaviour_payoffs_fit}
-use Rattle.verdicts.specs.TreeSteps.{now_node_steps, now_steps_at, now_steps_to}
+use Rattle.verdicts.specs.TreeSteps.{behaviour_node_steps, behaviour_steps_at, behaviour_steps_to}
 use Rattle.pure_payoffs.specs.declared.stop.PayoffStop.{PayoffStop}
 use Rattle.pure_payoffs.specs.declared.stop.PayoffStop.TheVariants as stops
 
@@ -86,10 +86,10 @@ module _ (t : Tree) (b other : Behaviour) (w : IsTree t) (alike : AreAlike t b o
 
   module _ (i : ℕ) where
     -- what a node pays takes the same steps, where those of later nodes are the same
-    now_node-alike : (f g : ℕ → List Step) (k : ℕ) → k < t.size → ((c : ℕ) → c < t.size → f c ≡ g c) → now_node_steps t b i f k (t.set k) ≡ now_node_steps t other i g k (t.set k)
-    now_node-alike f g k l h = go (t.set k) refl
+    behaviour_node-alike : (f g : ℕ → List Step) (k : ℕ) → k < t.size → ((c : ℕ) → c < t.size → f c ≡ g c) → behaviour_node_steps t b i f k (t.set k) ≡ behaviour_node_steps t other i g k (t.set k)
+    behaviour_node-alike f g k l h = go (t.set k) refl
       where
-        go : (o : Option ℕ) → t.set k ≡ o → now_node_steps t b i f k o ≡ now_node_steps t other i g k o
+        go : (o : Option ℕ) → t.set k ≡ o → behaviour_node_steps t b i f k o ≡ behaviour_node_steps t other i g k o
         go None e = refl
         go (Some s) e =
             let chance : (a : ℕ) → a < t.actions s → action_probability t b s a ≡ action_probability t other s a = λ a m. probability-alike s a (w.sets_within k s l e) m in
@@ -98,18 +98,18 @@ module _ (t : Tree) (b other : Behaviour) (w : IsTree t) (alike : AreAlike t b o
             (chances-alike (t.actions s) _ _ _ _ (λ a. f (child t k a)) (λ a. g (child t k a)) chance worth (λ a m. h (child t k a) (child-later t k s a w l e m).1))
             (products-alike (t.actions s) _ _ _ _ chance worth)
 
-    now_below-alike : (d k : ℕ) → k < t.size → now_steps_to t b i d k ≡ now_steps_to t other i d k
-    now_below-alike zero k l = refl
-    now_below-alike (suc d) k l = now_node-alike (now_steps_to t b i d) (now_steps_to t other i d) k l (λ c m. now_below-alike d c m)
+    behaviour_below-alike : (d k : ℕ) → k < t.size → behaviour_steps_to t b i d k ≡ behaviour_steps_to t other i d k
+    behaviour_below-alike zero k l = refl
+    behaviour_below-alike (suc d) k l = behaviour_node-alike (behaviour_steps_to t b i d) (behaviour_steps_to t other i d) k l (λ c m. behaviour_below-alike d c m)
 
     -- what a node pays takes the same steps
-    pub now_steps-alike : (k : ℕ) → k < t.size → now_steps_at t b i k ≡ now_steps_at t other i k
-    now_steps-alike k l = now_below-alike t.size k l
+    pub behaviour_steps-alike : (k : ℕ) → k < t.size → behaviour_steps_at t b i k ≡ behaviour_steps_at t other i k
+    behaviour_steps-alike k l = behaviour_below-alike t.size k l
 
   -- what all players are paid has the same answer
   pub behaviour_payoffs-alike : (answer : Result (Unit {0}) PayoffStop) → behaviour_payoffs_fit t b answer → behaviour_payoffs_fit t other answer
   behaviour_payoffs-alike answer h =
-      let same : (λ i. now_steps_at t b i 0) ≡ (λ i. now_steps_at t other i 0) = λ j i. now_steps-alike i 0 w.some_node j in
+      let same : (λ i. behaviour_steps_at t b i 0) ≡ (λ i. behaviour_steps_at t other i 0) = λ j i. behaviour_steps-alike i 0 w.some_node j in
       subst (λ steps. refused_by (λ stop. stops.Range stop.0 stop.1) (all_fit steps (range_with_len 0 t.players)) answer) same h
 
 -- a player's reply is the same against both

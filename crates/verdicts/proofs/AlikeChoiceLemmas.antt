@@ -18,8 +18,8 @@ use Rattle.game_theory.proofs.OwnSetLemmas.{IsAmong}
 use Rattle.best_replies.specs.Replies.{reply_value}
 use Rattle.best_replies.proofs.ReplyValueLemmas.{reply_value-agree}
 use Rattle.best_replies.proofs.WeightLemmas.{own_or_not, if_own, if_other}
-use Rattle.verdicts.specs.TreeSteps.{child_value, after_steps, after_sum, reply_steps_to, reply_steps, members, member_child, action_steps, decision_steps, player_steps, has_factor, weight_step, weight_steps}
-use Rattle.verdicts.proofs.AlikeBehaviourLemmas.{AreAlike, branch-alike, now_steps-alike, reply_value-alike, weight-alike}
+use Rattle.verdicts.specs.TreeSteps.{child_value, after_steps, after_sum, reply_steps_to, reply_steps, members, member_child, action_steps, decision_steps, tree_player_steps, has_factor, weight_step, tree_weight_steps}
+use Rattle.verdicts.proofs.AlikeBehaviourLemmas.{AreAlike, branch-alike, behaviour_steps-alike, reply_value-alike, weight-alike}
 use Rattle.verdicts.proofs.TreeOwnSetLemmas.{turned}
 use Rattle.frac128.proofs.SumStepLemmas.{sum_steps-same}
 
@@ -36,7 +36,7 @@ members-are t s j l = let found = numbers_with-tell t.set s t.size j _ (slice_ge
 -- ---- behaviours and choices
 module _ (t : Tree) (b behaviour : Behaviour) (i : ℕ) (choice other : ℕ → ℕ) (w : IsTree t) (alike : AreAlike t b behaviour) (chosen : (s : ℕ) → s < t.sets → t.owner s ≡ Some i → choice s < t.actions s) (same : (s : ℕ) → s < t.sets → t.owner s ≡ Some i → choice s ≡ other s) where
   -- the steps of the weights
-  weights-alike : weight_steps t b i ≡ weight_steps t behaviour i
+  weights-alike : tree_weight_steps t b i ≡ tree_weight_steps t behaviour i
   weights-alike = made-same (weight_step t b i) (weight_step t behaviour i) 0 t.size (λ c h l. step-alike c (omega (arith, l)))
     where
       step-alike : (c : ℕ) → c < t.size → weight_step t b i c ≡ weight_step t behaviour i c
@@ -95,9 +95,9 @@ module _ (t : Tree) (b behaviour : Behaviour) (i : ℕ) (choice other : ℕ → 
       inside j l = let is = members-are t s j l in (child-later t (get_or (members t s) j 0) s a w is.0 is.1 m).1
 
   -- the steps of the player
-  pub steps-alike : player_steps t b i choice ≡ player_steps t behaviour i other
+  pub steps-alike : tree_player_steps t b i choice ≡ tree_player_steps t behaviour i other
   steps-alike =
-      let now = now_steps-alike t b behaviour w alike i 0 w.some_node in
+      let now = behaviour_steps-alike t b behaviour w alike i 0 w.some_node in
       let decided = turned-alike (own_sets t i) (decision_steps t b i choice) (decision_steps t behaviour i other) (λ s among. made-same (action_steps t b i choice s) (action_steps t behaviour i other s) 0 (t.actions s) (λ a h m. action-alike s a (omega (arith, m)))) in
       let replies = reply-alike t.size 0 w.some_node in
       λ j. now j ++ (weights-alike j ++ decided j ++ replies j)

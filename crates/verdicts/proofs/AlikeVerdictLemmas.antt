@@ -7,20 +7,20 @@ use Rattle.best_replies.specs.Replies.{AreBestChoices}
 use Rattle.frac128.specs.Steps.{StepFits, IsFirstUnfit}
 use Rattle.verdicts.specs.declared.trees.TreeVerdict.{TreeVerdict}
 use Rattle.verdicts.specs.declared.trees.TreeVerdict.TheVariants.{Equilibrium, Better, Range}
-use Rattle.verdicts.specs.TreeSteps.{player_steps}
+use Rattle.verdicts.specs.TreeSteps.{tree_player_steps}
 use Rattle.verdicts.specs.TreeVerdicts.{PassesTree, IsTreeVerdict}
 use Rattle.verdicts.proofs.AlikeBehaviourLemmas.{AreAlike, best_choices-alike, reply_value-alike, value-alike}
 use Rattle.verdicts.proofs.AlikeChoiceLemmas.{steps-alike}
 
 module _ (t : Tree) (b other : Behaviour) (w : IsTree t) (alike : AreAlike t b other) where
-  player_steps-alike : (i : ℕ) (choice : ℕ → ℕ) → AreBestChoices t b i choice → player_steps t b i choice ≡ player_steps t other i choice
-  player_steps-alike i choice best = steps-alike t b other i choice choice w alike (λ s l o. (best s l o).within) (λ s l o. refl)
+  tree_player_steps-alike : (i : ℕ) (choice : ℕ → ℕ) → AreBestChoices t b i choice → tree_player_steps t b i choice ≡ tree_player_steps t other i choice
+  tree_player_steps-alike i choice best = steps-alike t b other i choice choice w alike (λ s l o. (best s l o).within) (λ s l o. refl)
 
   no_better-alike : (i : ℕ) → PassesTree t b i → PassesTree t other i
   no_better-alike i h = record {
     choice = h.choice;
     is_best = best_choices-alike t b other w alike i h.choice h.is_best;
-    fit = subst (All StepFits) (player_steps-alike i h.choice h.is_best) h.fit;
+    fit = subst (All StepFits) (tree_player_steps-alike i h.choice h.is_best) h.fit;
     no_more = subst₂ (λ x y. x ≤ℚ y) (reply_value-alike t b other w alike i h.choice 0 w.some_node) (value-alike t b other w alike i 0 w.some_node) h.no_more;
   }
 
@@ -31,7 +31,7 @@ module _ (t : Tree) (b other : Behaviour) (w : IsTree t) (alike : AreAlike t b o
     earlier = λ i l. no_better-alike i (h.earlier i l);
     choice = h.choice;
     is_best = best_choices-alike t b other w alike player h.choice h.is_best;
-    fit = subst (All StepFits) (player_steps-alike player h.choice h.is_best) h.fit;
+    fit = subst (All StepFits) (tree_player_steps-alike player h.choice h.is_best) h.fit;
     payoff_is = h.payoff_is ∙ value-alike t b other w alike player 0 w.some_node;
     best_is = h.best_is ∙ reply_value-alike t b other w alike player h.choice 0 w.some_node;
     more = h.more;
@@ -44,7 +44,7 @@ module _ (t : Tree) (b other : Behaviour) (w : IsTree t) (alike : AreAlike t b o
       earlier = λ i l. no_better-alike i (h.0.earlier i l);
       choice = h.0.choice;
       is_best = best_choices-alike t b other w alike h.0.player h.0.choice h.0.is_best;
-      first = subst (λ steps. IsFirstUnfit steps step) (player_steps-alike h.0.player h.0.choice h.0.is_best) h.0.first;
+      first = subst (λ steps. IsFirstUnfit steps step) (tree_player_steps-alike h.0.player h.0.choice h.0.is_best) h.0.first;
     },
     h.1,
   )

@@ -34,7 +34,7 @@ use Rattle.verdicts.specs.declared.trees.TreeVerdict.TheVariants as tree_verdict
 -- where a player is the first of whom it does not hold that no strategy is better
 module _ (g : Game) (m : Mixed) (i : ℕ) (is_player : i < length g.strategies) (some : 0 < slice_index g.strategies i) (earlier : (j : ℕ) → j < i → tables.PassesTable g m j) (fails : ¬ (tables.PassesTable g m i)) where
   -- a first best strategy is better, where the steps fit
-  better-strategy : All StepFits (tables.player_steps g m i) → (verdict : TableVerdict) × tables.IsTableVerdict g m verdict
+  better-strategy : All StepFits (tables.table_player_steps g m i) → (verdict : TableVerdict) × tables.IsTableVerdict g m verdict
   better-strategy fit =
       let best = first_greatest-exists (slice_index g.strategies i) (strategy_value g m i) some in
       elim (le_or_lt (strategy_value g m i best.place) (payoff g m i)) [
@@ -50,7 +50,7 @@ module _ (g : Game) (m : Mixed) (i : ℕ) (is_player : i < length g.strategies) 
       ]
 
   -- what is told of the player
-  told-strategy : (answer : Result (Unit {0}) Step) → all_steps_fit (tables.player_steps g m i) answer → (verdict : TableVerdict) × tables.IsTableVerdict g m verdict
+  told-strategy : (answer : Result (Unit {0}) Step) → all_steps_fit (tables.table_player_steps g m i) answer → (verdict : TableVerdict) × tables.IsTableVerdict g m verdict
   told-strategy (Ok _) fit = better-strategy fit
   told-strategy (Err step) first = (table_verdicts.Range step, record { player = i; is_player = is_player; earlier = earlier; first_unfit = first })
 
@@ -59,14 +59,14 @@ pub table_verdict-exists : (g : Game) (m : Mixed) → All (λ n. 0 < n) g.strate
 table_verdict-exists g m some none =
     all_or_first_below (tables.PassesTable g m) (length g.strategies) (λ found. elim found [
       | inl all ↦ none (table_verdicts.Equilibrium, all)
-      | inr first ↦ all_steps_fit-answered (tables.player_steps g m first.0) (λ answer h. none (told-strategy g m first.0 first.1 (some first.0 0 first.1) first.3 first.2 answer h))
+      | inr first ↦ all_steps_fit-answered (tables.table_player_steps g m first.0) (λ answer h. none (told-strategy g m first.0 first.1 (some first.0 0 first.1) first.3 first.2 answer h))
     ])
 
 -- ---- trees
 -- where a player is the first of whom it does not hold that no reply is better
 module _ (t : Tree) (b : Behaviour) (i : ℕ) (within : i < t.players) (choice : ℕ → ℕ) (best : AreBestChoices t b i choice) (earlier : (j : ℕ) → j < i → trees.PassesTree t b j) (fails : ¬ (trees.PassesTree t b i)) where
   -- the best choices are better, where the steps fit
-  better-reply : All StepFits (tree_steps.player_steps t b i choice) → (verdict : TreeVerdict) × (reply : List ℕ) × trees.IsTreeVerdict t b verdict reply
+  better-reply : All StepFits (tree_steps.tree_player_steps t b i choice) → (verdict : TreeVerdict) × (reply : List ℕ) × trees.IsTreeVerdict t b verdict reply
   better-reply fit =
       elim (le_or_lt (reply_value t b i choice 0) (payoff_on_tree t b i)) [
         | inl no_more ↦ absurd (fails (record { choice = choice; is_best = best; fit = fit; no_more = no_more }))
@@ -88,7 +88,7 @@ module _ (t : Tree) (b : Behaviour) (i : ℕ) (within : i < t.players) (choice :
       ]
 
   -- what is told of the player
-  told-reply : (answer : Result (Unit {0}) Step) → all_steps_fit (tree_steps.player_steps t b i choice) answer → (verdict : TreeVerdict) × (reply : List ℕ) × trees.IsTreeVerdict t b verdict reply
+  told-reply : (answer : Result (Unit {0}) Step) → all_steps_fit (tree_steps.tree_player_steps t b i choice) answer → (verdict : TreeVerdict) × (reply : List ℕ) × trees.IsTreeVerdict t b verdict reply
   told-reply (Ok _) fit = better-reply fit
   told-reply (Err step) first = (tree_verdicts.Range step, [], (record { player = i; within = within; earlier = earlier; choice = choice; is_best = best; first = first }, refl))
 
@@ -102,7 +102,7 @@ tree_verdict-exists t b valid numbered recall none =
   where
     by : (i : ℕ) → i < t.players → ((j : ℕ) → j < i → trees.PassesTree t b j) → ¬ (trees.PassesTree t b i) → (choice : ℕ → ℕ) × AreBestChoices t b i choice → ⊥
     by i within earlier fails best =
-        all_steps_fit-answered (tree_steps.player_steps t b i best.0) (λ answer h. none (told-reply t b i within best.0 best.1 earlier fails answer h))
+        all_steps_fit-answered (tree_steps.tree_player_steps t b i best.0) (λ answer h. none (told-reply t b i within best.0 best.1 earlier fails answer h))
 
 -- ---- entries
 -- the entries of a mixed profile have a verdict

@@ -9,10 +9,10 @@ use Rattle.game_theory.proofs.OwnSetLemmas.{map-among, own_sets-tell}
 use Rattle.best_replies.specs.Replies.{reply_value, AreBestChoices}
 use Rattle.frac128.specs.Steps.{StepFits}
 use Rattle.verdicts.specs.TreeReplies.{AreChosen}
-use Rattle.verdicts.specs.TreeSteps.{player_steps}
+use Rattle.verdicts.specs.TreeSteps.{tree_player_steps}
 use Rattle.verdicts.specs.TreeVerdicts.{PassesTree, IsBetter}
 
-module _ (t : Tree) (b : Behaviour) (i : ℕ) (choice : ℕ → ℕ) (now best : ℚ) (is_best : AreBestChoices t b i choice) (now_is : now ≡ payoff t b i) (best_is : best ≡ reply_value t b i choice 0) (fit : All StepFits (player_steps t b i choice)) where
+module _ (t : Tree) (b : Behaviour) (i : ℕ) (choice : ℕ → ℕ) (now best : ℚ) (is_best : AreBestChoices t b i choice) (now_is : now ≡ payoff t b i) (best_is : best ≡ reply_value t b i choice 0) (fit : All StepFits (tree_player_steps t b i choice)) where
   -- best choices that do not pay more
   pub none-better : (now <ℚ best → ⊥) → PassesTree t b i
   none-better not_less = record {

@@ -2,8 +2,8 @@ pub mod AlikeBehaviourLemmas
 pub mod AlikeChoiceLemmas
 pub mod AlikeVerdictLemmas
 pub mod AnsweredVerdictLemmas
-pub mod ChoiceLemmas
 pub mod FoundReplyLemmas
+pub mod MappedErrorLemmas
 pub mod SameEntryLemmas
 pub mod TableBlockLemmas
 pub mod TableOtherLemmas
@@ -11,10 +11,10 @@ pub mod TablePartLemmas
 pub mod TableSingleLemmas
 pub mod TableStepLemmas
 pub mod TableVerdictLemmas
+pub mod TreeBehaviourStepLemmas
 pub mod TreeDecisionLemmas
 pub mod TreeDepthLemmas
 pub mod TreeMemberLemmas
-pub mod TreeNowStepLemmas
 pub mod TreeOwnSetLemmas
 pub mod TreeReplyLemmas
 pub mod TreeReplyPartLemmas

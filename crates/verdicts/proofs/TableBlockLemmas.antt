@@ -5,7 +5,7 @@ use Rattle.std.proofs.Math.Nat.{mul-le-mul_left}
 use Rattle.std.proofs.lemmas.Bool.{cases_lt}
 use Rattle.std.proofs.lemmas.Bool.Decides.{Decides-eqb}
 use Rattle.std.proofs.lemmas.List.Elements.{All-append, All-nil}
-use Rattle.rational.specs.Rational.{ℚ, ◌+ℚ◌, ◌*ℚ◌, zero_ℚ, one_ℚ}
+use Rattle.rational.specs.Rational.{ℚ, ◌+ℚ◌, ◌*ℚ◌, zero_ℚ}
 use Rattle.rational.proofs.RationalRing.{+ℚ-zero}
 use Rattle.game_theory.specs.Profiles.{Game, profile_at, profile_count, stride}
 use Rattle.game_theory.specs.Mixed.{Mixed}
@@ -13,7 +13,7 @@ use Rattle.game_theory.proofs.ProfileNumberLemmas.{quotient-of, remainder-of, st
 use Rattle.frac128.specs.Steps.{Step, StepFits, IsFirstUnfit}
 use Rattle.frac128.proofs.StepRunLemmas.{first_unfit-more, first_unfit-following}
 use Rattle.best_replies.specs.Strategies.{strategy_value, weight, value_below}
-use Rattle.verdicts.specs.TableChecks.{others_probabilities, product_steps, profile_steps, steps_at, strategy_steps, weighed_steps}
+use Rattle.verdicts.specs.TableChecks.{profile_steps, steps_at, strategy_steps, table_weight_steps, weighed_steps}
 use Rattle.frac128.proofs.StepPartLemmas.{fits-joined, none-more, steps_of, unfit-joined}
 
 -- the profiles are the stride times those of the players from one on
@@ -94,19 +94,19 @@ module _ (g : Game) (m : Mixed) (i s k : ℕ) where
       go false d = +ℚ-zero (value_below g m i s k)
 
   -- the weight's steps, and then those of the product and the sum
-  abbrev weight_steps : List Step
-  weight_steps = product_steps one_ℚ (others_probabilities m i (profile_at g.strategies k))
+  abbrev own_weight_steps : List Step
+  own_weight_steps = table_weight_steps m i (profile_at g.strategies k)
 
-  pub profile-fits : (w pay sum : ℚ) → strategy_of ≡ s → w ≡ weight m i (profile_at g.strategies k) → pay ≡ g.pays i k → sum ≡ value_below g m i s k → All StepFits weight_steps → All StepFits (weighed_steps w pay sum) → All StepFits (steps_at g m i s k)
+  pub profile-fits : (w pay sum : ℚ) → strategy_of ≡ s → w ≡ weight m i (profile_at g.strategies k) → pay ≡ g.pays i k → sum ≡ value_below g m i s k → All StepFits own_weight_steps → All StepFits (weighed_steps w pay sum) → All StepFits (steps_at g m i s k)
   profile-fits w pay sum e a b c h f =
-      subst (All StepFits) (sym (played-steps e)) (All-append StepFits weight_steps _ h (subst (All StepFits) (λ j. weighed_steps (a j) (b j) (c j)) f))
+      subst (All StepFits) (sym (played-steps e)) (All-append StepFits own_weight_steps _ h (subst (All StepFits) (λ j. weighed_steps (a j) (b j) (c j)) f))
 
-  pub weight-unfit : (u : Step) → strategy_of ≡ s → IsFirstUnfit weight_steps u → IsFirstUnfit (steps_at g m i s k) u
-  weight-unfit u e h = subst (λ ss. IsFirstUnfit ss u) (sym (played-steps e)) (first_unfit-more weight_steps _ u h)
+  pub weight-unfit : (u : Step) → strategy_of ≡ s → IsFirstUnfit own_weight_steps u → IsFirstUnfit (steps_at g m i s k) u
+  weight-unfit u e h = subst (λ ss. IsFirstUnfit ss u) (sym (played-steps e)) (first_unfit-more own_weight_steps _ u h)
 
-  pub sum-unfit : (w pay sum : ℚ) (u : Step) → strategy_of ≡ s → w ≡ weight m i (profile_at g.strategies k) → pay ≡ g.pays i k → sum ≡ value_below g m i s k → All StepFits weight_steps → IsFirstUnfit (weighed_steps w pay sum) u → IsFirstUnfit (steps_at g m i s k) u
+  pub sum-unfit : (w pay sum : ℚ) (u : Step) → strategy_of ≡ s → w ≡ weight m i (profile_at g.strategies k) → pay ≡ g.pays i k → sum ≡ value_below g m i s k → All StepFits own_weight_steps → IsFirstUnfit (weighed_steps w pay sum) u → IsFirstUnfit (steps_at g m i s k) u
   sum-unfit w pay sum u e a b c h f =
-      subst (λ ss. IsFirstUnfit ss u) (sym (played-steps e)) (first_unfit-following weight_steps _ u h (subst (λ ss. IsFirstUnfit ss u) (λ j. weighed_steps (a j) (b j) (c j)) f))
+      subst (λ ss. IsFirstUnfit ss u) (sym (played-steps e)) (first_unfit-following own_weight_steps _ u h (subst (λ ss. IsFirstUnfit ss u) (λ j. weighed_steps (a j) (b j) (c j)) f))
 
   pub profile-value : (w pay sum next : ℚ) → strategy_of ≡ s → w ≡ weight m i (profile_at g.strategies k) → pay ≡ g.pays i k → sum ≡ value_below g m i s k → next ≡ sum +ℚ (w *ℚ pay) → next ≡ value_below g m i s (suc k)
   profile-value w pay sum next e a b c n = n ∙ (λ j. c j +ℚ (a j *ℚ b j)) ∙ sym (played-value e)

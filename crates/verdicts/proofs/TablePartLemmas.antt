@@ -42,12 +42,6 @@ module _ (t : GameTable) (valid : IsTable t) where
     pub entries-within : sum (take i (strategy_counts t)) + get_or (strategy_counts t) i 0 ≤ sum (strategy_counts t)
     entries-within = end-within (strategy_counts t) i (get_or (strategy_counts t) i 0) (slice_get-get_or (strategy_counts t) i 0 player-within)
 
-    -- a profile's payoff is one of the payoffs
-    pub payoff-within : (k : ℕ) → k < profile_count (strategy_counts t) → k * length t.players + i < length t.payoffs
-    payoff-within k b =
-        let row = mul-le-mul_left (length t.players) b in
-        omega (arith, row, l, valid.payoffs_of_each)
-
     -- so many players fit 32 bits
     pub player-few : i < 2 ^ 32
     player-few =

@@ -15,7 +15,7 @@ use Rattle.frac128.specs.Steps.{Step, StepFits, IsFirstUnfit}
 use Rattle.frac128.proofs.FirstUnfitLemmas.{unfit_among, unfit_once}
 use Rattle.best_replies.specs.Strategies.{own_as_one, strategy_value, weight, value_below}
 use Rattle.best_replies.proofs.FirstGreatestLemmas.{IsFirstGreatest-same, first_greatest-unique}
-use Rattle.verdicts.specs.TableChecks.{PassesTable, IsBetterReply, IsFirstBetter, IsRangeStop, IsTableVerdict, others_probabilities, payoff_below, payoff_steps, player_steps, product_steps, steps_at, strategy_steps, value_steps, weighed_steps}
+use Rattle.verdicts.specs.TableChecks.{PassesTable, IsBetterReply, IsFirstBetter, IsRangeStop, IsTableVerdict, others_probabilities, payoff_below, payoff_steps, table_player_steps, product_steps, steps_at, strategy_steps, value_steps, weighed_steps}
 use Rattle.verdicts.specs.TableLaws.{TableVerdictsAreSingle}
 use Rattle.verdicts.proofs.TableOtherLemmas.{others_from, others-from_first}
 use Rattle.verdicts.specs.declared.tables.TableVerdict.{TableVerdict}
@@ -82,7 +82,7 @@ module _ (g : Game) (m other : Mixed) (same : (i s : ℕ) → i < length g.strat
         at : (s : ℕ) → s < get_or g.strategies i 0 → weighed_steps (m i s) (strategy_value g m i s) (payoff_below g m i s) ≡ weighed_steps (other i s) (strategy_value g other i s) (payoff_below g other i s)
         at s l = λ d. weighed_steps (same i s is_player l d) (value-same i s d) (sum-same s (let few : s ≤ get_or g.strategies i 0 = omega (arith, l) in few) d)
 
-    player-same : player_steps g m i ≡ player_steps g other i
+    player-same : table_player_steps g m i ≡ table_player_steps g other i
     player-same = ap₂ (λ v w. v ++ w) (values-same i) now-same
 
     payoff-same : payoff_of g m i ≡ payoff_of g other i
@@ -144,28 +144,28 @@ module _ (g : Game) (m : Mixed) where
   better_or_range p r a b step h k = elim (cases_lt p k.player) [
     | inl l ↦ clash p r a b (k.earlier p l) h.better
     | inr n ↦ elim (cases_lt k.player p) [
-      | inl l ↦ unfit_among (player_steps g m k.player) step k.first_unfit (h.earlier k.player l).fit
-      | inr o ↦ (let e : p ≡ k.player = omega arith in unfit_among (player_steps g m k.player) step k.first_unfit (subst (λ i. All StepFits (player_steps g m i)) e h.better.fit))
+      | inl l ↦ unfit_among (table_player_steps g m k.player) step k.first_unfit (h.earlier k.player l).fit
+      | inr o ↦ (let e : p ≡ k.player = omega arith in unfit_among (table_player_steps g m k.player) step k.first_unfit (subst (λ i. All StepFits (table_player_steps g m i)) e h.better.fit))
     ]
   ]
 
   same_range : (one other : Step) → IsRangeStop g m one → IsRangeStop g m other → one ≡ other
   same_range one other h k = elim (cases_lt h.player k.player) [
-    | inl l ↦ absurd (unfit_among (player_steps g m h.player) one h.first_unfit (k.earlier h.player l).fit)
+    | inl l ↦ absurd (unfit_among (table_player_steps g m h.player) one h.first_unfit (k.earlier h.player l).fit)
     | inr n ↦ elim (cases_lt k.player h.player) [
-      | inl l ↦ absurd (unfit_among (player_steps g m k.player) other k.first_unfit (h.earlier k.player l).fit)
-      | inr o ↦ (let e : k.player ≡ h.player = omega arith in unfit_once (player_steps g m h.player) one other h.first_unfit (subst (λ i. IsFirstUnfit (player_steps g m i) other) e k.first_unfit))
+      | inl l ↦ absurd (unfit_among (table_player_steps g m k.player) other k.first_unfit (h.earlier k.player l).fit)
+      | inr o ↦ (let e : k.player ≡ h.player = omega arith in unfit_once (table_player_steps g m h.player) one other h.first_unfit (subst (λ i. IsFirstUnfit (table_player_steps g m i) other) e k.first_unfit))
     ]
   ]
 
   same_verdict : (one other : TableVerdict) → IsTableVerdict g m one → IsTableVerdict g m other → one ≡ other
   same_verdict Equilibrium Equilibrium h k = refl
   same_verdict Equilibrium (Better q c d s) h k = absurd (clash q s c d (h q k.is_player) k.better)
-  same_verdict Equilibrium (Range step) h k = absurd (unfit_among (player_steps g m k.player) step k.first_unfit (h k.player k.is_player).fit)
+  same_verdict Equilibrium (Range step) h k = absurd (unfit_among (table_player_steps g m k.player) step k.first_unfit (h k.player k.is_player).fit)
   same_verdict (Better p a b r) Equilibrium h k = absurd (clash p r a b (k p h.is_player) h.better)
   same_verdict (Better p a b r) (Better q c d s) h k = same_better p q r s a b c d h k
   same_verdict (Better p a b r) (Range step) h k = absurd (better_or_range p r a b step h k)
-  same_verdict (Range step) Equilibrium h k = absurd (unfit_among (player_steps g m h.player) step h.first_unfit (k h.player h.is_player).fit)
+  same_verdict (Range step) Equilibrium h k = absurd (unfit_among (table_player_steps g m h.player) step h.first_unfit (k h.player h.is_player).fit)
   same_verdict (Range step) (Better q c d s) h k = absurd (better_or_range q s c d step k h)
   same_verdict (Range one) (Range other) h k = ap Range (same_range one other h k)
 

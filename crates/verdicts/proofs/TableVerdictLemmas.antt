@@ -8,7 +8,7 @@ use Rattle.game_theory.specs.Profiles.{Game}
 use Rattle.frac128.specs.Steps.{StepFits}
 use Rattle.best_replies.specs.Strategies.{strategy_value}
 use Rattle.best_replies.proofs.StrategyLemmas.{best_strategies-tell, strategy_value-payoff}
-use Rattle.verdicts.specs.TableChecks.{PassesTable, IsFirstBetter, player_steps}
+use Rattle.verdicts.specs.TableChecks.{PassesTable, IsFirstBetter, table_player_steps}
 use Rattle.verdicts.specs.TableLaws.{ShowsBetterStrategy, TableVerdictsFindEquilibria}
 
 -- no strategy of a player who has no better one pays more than the profile
@@ -17,7 +17,7 @@ no_reply g m i s l b h =
     subst (λ x. x ≤ℚ payoff_of g m i) (strategy_value-payoff g m i s l b) (h.no_more s b)
 
 -- at an equilibrium no player has a better strategy
-none_better : (g : Game) (m : Mixed) (i : ℕ) → i < length g.strategies → IsEquilibrium g m → All StepFits (player_steps g m i) → PassesTable g m i
+none_better : (g : Game) (m : Mixed) (i : ℕ) → i < length g.strategies → IsEquilibrium g m → All StepFits (table_player_steps g m i) → PassesTable g m i
 none_better g m i l e fit =
     record {
       fit = fit;

@@ -1,7 +1,6 @@
 -- What a node is worth for a player's reply: the steps, and what they give.
-use Rattle.std.proofs.Common.{ℕ, ◌<◌, ◌≡◌, ◌≢◌, inl, inr, Option, Some, None, List, [], ◌∷◌, ◌++◌, All, Result, Ok, refl, sym, ap, ◌∙◌, subst}
+use Rattle.std.proofs.Common.{ℕ, ◌<◌, ◌≡◌, ◌≢◌, inl, inr, Option, Some, None, List, [], ◌∷◌, ◌++◌, All, Result, refl, sym, ap, ◌∙◌, subst}
 use Rattle.std.specs.Prelude.{IfOk, IfErr, OnOk, OnErr, if◌then◌else◌}
-use Rattle.std.proofs.lemmas.List.Elements.{All-nil}
 use Rattle.rational.specs.Rational.{ℚ, ◌+ℚ◌, ◌*ℚ◌, zero_ℚ}
 use Rattle.rational.proofs.RationalRing.{+ℚ-zero}
 use Rattle.rational.proofs.Rules.{zero-+ℚ}
@@ -55,10 +54,6 @@ module _ (t : Tree) (b : Behaviour) (i : ℕ) (choice : ℕ → ℕ) (w : IsTree
     ap (after_steps t b i choice (reply_steps t b i choice) k) e ∙ if_other t i s _ _ o,
     ap (after_sum t b i choice k) e ∙ if_other t i s _ _ o,
   )
-
-  -- after an end there is nothing
-  pub following-end : (k : ℕ) → t.set k ≡ None → StepsGive (after_steps_at t b i choice k) (after_sum_at t b i choice k) (Ok zero_ℚ)
-  following-end k e = rw e (refl, All-nil StepFits)
 
   -- the sum at an own node
   pub own-gives : (k s : ℕ) (z x : ℚ) (r : Result ℚ Unfit) → t.set k ≡ Some s → t.owner s ≡ Some i → z ≡ zero_ℚ → x ≡ child_value t b i choice k (choice s)

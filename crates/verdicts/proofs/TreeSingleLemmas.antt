@@ -18,7 +18,7 @@ use Rattle.frac128.specs.Steps.{Step, StepFits, IsFirstUnfit}
 use Rattle.frac128.proofs.FirstUnfitLemmas.{unfit_once, unfit_among}
 use Rattle.verdicts.specs.declared.trees.TreeVerdict.{TreeVerdict}
 use Rattle.verdicts.specs.declared.trees.TreeVerdict.TheVariants.{Equilibrium, Better, Range}
-use Rattle.verdicts.specs.TreeSteps.{player_steps}
+use Rattle.verdicts.specs.TreeSteps.{tree_player_steps}
 use Rattle.verdicts.specs.TreeVerdicts.{PassesTree, IsBetter, IsOutOfRange, IsTreeVerdict}
 use Rattle.verdicts.specs.TreeVerdictLaws.{TreeVerdictsAreSingle}
 use Rattle.verdicts.proofs.AlikeChoiceLemmas.{values-alike, steps-alike}
@@ -34,7 +34,7 @@ module _ (t : Tree) (b : Behaviour) (w : IsTree t) (numbered : AreNumberedByFirs
     worth-same : reply_value t b i choice 0 ≡ reply_value t b i other 0
     worth-same = values-alike t b b i choice other w (λ s j a m o n. refl) (λ s m o. (best s m o).within) same 0 w.some_node
 
-    steps-same : player_steps t b i choice ≡ player_steps t b i other
+    steps-same : tree_player_steps t b i choice ≡ tree_player_steps t b i other
     steps-same = steps-alike t b b i choice other w (λ s j a m o n. refl) (λ s m o. (best s m o).within) same
 
     reply-same : map choice (own_sets t i) ≡ map other (own_sets t i)
@@ -47,7 +47,7 @@ module _ (t : Tree) (b : Behaviour) (w : IsTree t) (numbered : AreNumberedByFirs
       not_le_of_lt _ _ (subst (λ x. x <ℚ best) h.payoff_is h.more) (subst (λ x. x ≤ℚ payoff t b p) (worth-same p h.within g.choice h.choice g.is_best h.is_best ∙ sym h.best_is) g.no_more)
 
   -- nor is one with a step that does not fit
-  out-excludes : (step : Step) (h : IsOutOfRange t b step) → (choice : ℕ → ℕ) → AreBestChoices t b h.player choice → All StepFits (player_steps t b h.player choice) → ⊥
+  out-excludes : (step : Step) (h : IsOutOfRange t b step) → (choice : ℕ → ℕ) → AreBestChoices t b h.player choice → All StepFits (tree_player_steps t b h.player choice) → ⊥
   out-excludes step h choice best fit =
       unfit_among _ step h.first (subst (All StepFits) (steps-same h.player h.within choice h.choice best h.is_best) fit)
 
@@ -80,7 +80,7 @@ module _ (t : Tree) (b : Behaviour) (w : IsTree t) (numbered : AreNumberedByFirs
   one-out step step' h g =
       let players : g.player ≡ h.player = first-same g.player h.player g.earlier h.earlier (out-not step' g) (out-not step h) in
       let best : AreBestChoices t b h.player g.choice = subst (λ x. AreBestChoices t b x g.choice) players g.is_best in
-      let first : IsFirstUnfit (player_steps t b h.player g.choice) step' = subst (λ x. IsFirstUnfit (player_steps t b x g.choice) step') players g.first in
+      let first : IsFirstUnfit (tree_player_steps t b h.player g.choice) step' = subst (λ x. IsFirstUnfit (tree_player_steps t b x g.choice) step') players g.first in
       unfit_once _ step step' (subst (λ steps. IsFirstUnfit steps step) (steps-same h.player h.within h.choice g.choice h.is_best best) h.first) first
 
   pub verdicts-same : (v u : TreeVerdict) (reply reply' : List ℕ) → IsTreeVerdict t b v reply → IsTreeVerdict t b u reply' → (v ≡ u) × (reply ≡ reply')

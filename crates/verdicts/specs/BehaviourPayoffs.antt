@@ -4,7 +4,7 @@ use Rattle.answers.specs.Answers.{Answer, IsSingle, refused_by}
 use Rattle.frac128.specs.FirstUnfit.{all_fit}
 use Rattle.game_theory.specs.Trees.{Tree}
 use Rattle.game_theory.specs.Behaviour.{Behaviour}
-use Rattle.verdicts.specs.TreeSteps.{now_steps_at}
+use Rattle.verdicts.specs.TreeSteps.{behaviour_steps_at}
 use Rattle.pure_payoffs.specs.declared.stop.PayoffStop.{PayoffStop}
 use Rattle.pure_payoffs.specs.declared.stop.PayoffStop.TheVariants as stops
 
@@ -12,7 +12,7 @@ use Rattle.pure_payoffs.specs.declared.stop.PayoffStop.TheVariants as stops
 abbrev pub behaviour_payoffs_fit : Tree → Behaviour → Answer PayoffStop (Unit {0})
 behaviour_payoffs_fit t b =
     refused_by (λ stop. stops.Range stop.0 stop.1)
-    (all_fit (λ i. now_steps_at t b i 0) (range_with_len 0 t.players))
+    (all_fit (λ i. behaviour_steps_at t b i 0) (range_with_len 0 t.players))
 
 -- Behaviour has at most one answer.
 abbrev pub BehaviourPayoffsAreSingle : Type 0

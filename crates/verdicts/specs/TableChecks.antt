@@ -34,13 +34,13 @@ others_probabilities m i profile =
     (filter (λ j. not (j == i)) (range_with_len 0 (length profile)))
 
 -- those are multiplied, from 1 on
-abbrev pub weight_steps : Mixed → ℕ → List ℕ → List Step
-weight_steps m i profile = product_steps one_ℚ (others_probabilities m i profile)
+abbrev pub table_weight_steps : Mixed → ℕ → List ℕ → List Step
+table_weight_steps m i profile = product_steps one_ℚ (others_probabilities m i profile)
 
 -- the steps at profile k: those of its weight, and its payoff counts with that weight
 abbrev pub profile_steps : Game → Mixed → ℕ → ℕ → ℕ → List Step
 profile_steps g m i s k =
-    weight_steps m i (profile_at g.strategies k)
+    table_weight_steps m i (profile_at g.strategies k)
     ++ weighed_steps (weight m i (profile_at g.strategies k)) (g.pays i k) (value_below g m i s k)
 
 -- there are none where the strategy is not played
@@ -58,32 +58,34 @@ abbrev pub payoff_below : Game → Mixed → ℕ → ℕ → ℚ
 payoff_below g m i n = sum_to n (λ s. m i s *ℚ strategy_value g m i s)
 
 -- what strategy s is worth counts with its probability
-abbrev pub share_steps : Game → Mixed → ℕ → ℕ → List Step
-share_steps g m i s = weighed_steps (m i s) (strategy_value g m i s) (payoff_below g m i s)
+abbrev pub strategy_payoff_steps : Game → Mixed → ℕ → ℕ → List Step
+strategy_payoff_steps g m i s =
+    weighed_steps (m i s) (strategy_value g m i s) (payoff_below g m i s)
 
 -- the steps of player i's payoff
 abbrev pub payoff_steps : Game → Mixed → ℕ → List Step
-payoff_steps g m i = flat_map (share_steps g m i) (range_with_len 0 (slice_index g.strategies i))
+payoff_steps g m i =
+    flat_map (strategy_payoff_steps g m i) (range_with_len 0 (slice_index g.strategies i))
 
 -- the steps of what player i's strategies are worth
 abbrev pub value_steps : Game → Mixed → ℕ → List Step
 value_steps g m i = flat_map (strategy_steps g m i) (range_with_len 0 (slice_index g.strategies i))
 
 -- all steps of player i
-abbrev pub player_steps : Game → Mixed → ℕ → List Step
-player_steps g m i = value_steps g m i ++ payoff_steps g m i
+abbrev pub table_player_steps : Game → Mixed → ℕ → List Step
+table_player_steps g m i = value_steps g m i ++ payoff_steps g m i
 
 -- ---- verdicts
 -- player i passes: the steps fit, and no strategy is worth more than the payoff
 pub record PassesTable (g : Game) (m : Mixed) (i : ℕ) : Type 0 where
-  pub fit : All StepFits (player_steps g m i)
+  pub fit : All StepFits (table_player_steps g m i)
   pub no_more : (s : ℕ) → s < slice_index g.strategies i
       → strategy_value g m i s ≤ℚ payoff_of g m i
 
 -- a player's steps fit, and this first best strategy is worth more than the payoff
 pub record IsBetterReply (g : Game) (m : Mixed) (player : ℕ) (payoff best : ℚ) (reply : ℕ)
     : Type 0 where
-  pub fit : All StepFits (player_steps g m player)
+  pub fit : All StepFits (table_player_steps g m player)
   pub is_best : IsBestStrategy g m player reply
   pub payoff_is : payoff ≡ payoff_of g m player
   pub best_is : best ≡ strategy_value g m player reply
@@ -106,7 +108,7 @@ pub record IsRangeStop (g : Game) (m : Mixed) (step : Step) : Type 0 where
   pub player : ℕ
   pub is_player : player < length g.strategies
   pub earlier : (i : ℕ) → i < player → PassesTable g m i
-  pub first_unfit : IsFirstUnfit (player_steps g m player) step
+  pub first_unfit : IsFirstUnfit (table_player_steps g m player) step
 
 -- the verdict of a mixed profile, players in order
 abbrev pub IsTableVerdict : Game → Mixed → TableVerdict → Type 0

@@ -7,7 +7,7 @@ use Rattle.game_theory.specs.Equilibrium.{IsEquilibrium}
 use Rattle.game_core.specs.Table.{GameTable}
 use Rattle.frac128.specs.Steps.{StepFits}
 use Rattle.best_replies.specs.Strategies.{HasBetterStrategy}
-use Rattle.verdicts.specs.TableChecks.{IsTableVerdict, player_steps, table_verdict}
+use Rattle.verdicts.specs.TableChecks.{IsTableVerdict, table_player_steps, table_verdict}
 use Rattle.verdicts.specs.declared.tables.TableVerdict.{TableVerdict}
 use Rattle.verdicts.specs.declared.tables.TableVerdict.TheVariants.{Equilibrium, Better}
 
@@ -41,5 +41,5 @@ pub record TableVerdictsFindEquilibria : Type 0 where
       → IsTableVerdict g m (Better player payoff best reply)
       → ShowsBetterStrategy g m player reply payoff best
   pub exactly : (g : Game) (m : Mixed) → IsValid g.strategies m
-      → ((i : ℕ) → i < length g.strategies → All StepFits (player_steps g m i))
+      → ((i : ℕ) → i < length g.strategies → All StepFits (table_player_steps g m i))
       → IsTableVerdict g m Equilibrium ↔ IsEquilibrium g m

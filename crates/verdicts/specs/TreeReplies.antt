@@ -14,23 +14,24 @@ use Rattle.verdicts.specs.TreeSteps.{after_steps, after_sum, reply_steps}
 use Rattle.verdicts.specs.TreeWeights.{AreWeights}
 
 -- a game tree, its nodes' children, a weight for each node, and one of its players
-pub record AreReplies (t : Tree) (children : List (List ℕ)) (weights : List ℚ) (i : ℕ) : Type 0 where
+pub record AreReplies (t : Tree) (children : List (List ℕ)) (weights : List ℚ)
+    (i : ℕ) : Type 0 where
   pub tree : IsTree t
   pub children_are : AreChildren t children
   pub weights_long : length weights ≡ t.size
   pub player_within : i < t.players
 
 -- the game of the tree
-abbrev pub game_at : TreeReplies → Tree
-game_at r = game_of_tree r.tree.now
+abbrev pub tree_game_at : TreeReplies → Tree
+tree_game_at r = game_of_tree r.tree.now
 
 -- the parts of a player's replies fit
 abbrev pub AreTreeReplies : TreeReplies → Type 0
 AreTreeReplies r =
-    AreReplies (game_at r) (map (λ v. v.items) r.children.now) r.weights.now r.player
+    AreReplies (tree_game_at r) (map (λ v. v.items) r.children.now) r.weights.now r.player
 
 -- a number for each set, which at each own set of player i is one of its actions
-pub record AreChoices (t : Tree) (i : ℕ) (choices : List ℕ) : Type 0 where
+pub record IsChoiceList (t : Tree) (i : ℕ) (choices : List ℕ) : Type 0 where
   pub long : length choices ≡ t.sets
   pub within : IsChoice t i (slice_index choices)
 

@@ -15,30 +15,32 @@ use Rattle.best_replies.specs.Replies.{reply_value}
 
 -- ---- what the behaviour pays
 -- the steps of what comes after a node of set s, and its value: the sum over the actions
-abbrev pub now_steps_after : Tree → Behaviour → ℕ → (ℕ → List Step) → ℕ → ℕ → List Step
-now_steps_after t b i later k s =
+abbrev pub behaviour_steps_after : Tree → Behaviour → ℕ → (ℕ → List Step) → ℕ → ℕ → List Step
+behaviour_steps_after t b i later k s =
     chance_steps (t.actions s) (action_probability t b s) (λ a. value t b i (child t k a))
     (λ a. later (child t k a))
 
-abbrev pub now_value_after : Tree → Behaviour → ℕ → ℕ → ℕ → ℚ
-now_value_after t b i k s =
+abbrev pub behaviour_value_after : Tree → Behaviour → ℕ → ℕ → ℕ → ℚ
+behaviour_value_after t b i k s =
     sum_to (t.actions s) (λ a. action_probability t b s a *ℚ value t b i (child t k a))
 
 -- the steps at a node by its set: none at an end, and else those of what comes after it, and last
 -- the addition of this to what the outcome pays
-abbrev pub now_node_steps : Tree → Behaviour → ℕ → (ℕ → List Step) → ℕ → Option ℕ → List Step
-now_node_steps t b i later k None = []
-now_node_steps t b i later k (Some s) =
-    now_steps_after t b i later k s ++ step_of Add (t.pays k i) (now_value_after t b i k s) ∷ []
+abbrev pub behaviour_node_steps : Tree → Behaviour → ℕ → (ℕ → List Step) → ℕ → Option ℕ → List Step
+behaviour_node_steps t b i later k None = []
+behaviour_node_steps t b i later k (Some s) =
+    behaviour_steps_after t b i later k s
+    ++ step_of Add (t.pays k i) (behaviour_value_after t b i k s) ∷ []
 
 -- the steps of node k's value, where what lies d edges or more below has none
-abbrev pub now_steps_to : Tree → Behaviour → ℕ → ℕ → ℕ → List Step
-now_steps_to t b i zero k = []
-now_steps_to t b i (suc d) k = now_node_steps t b i (now_steps_to t b i d) k (t.set k)
+abbrev pub behaviour_steps_to : Tree → Behaviour → ℕ → ℕ → ℕ → List Step
+behaviour_steps_to t b i zero k = []
+behaviour_steps_to t b i (suc d) k =
+    behaviour_node_steps t b i (behaviour_steps_to t b i d) k (t.set k)
 
 -- the steps of node k's value
-abbrev pub now_steps_at : Tree → Behaviour → ℕ → ℕ → List Step
-now_steps_at t b i k = now_steps_to t b i t.size k
+abbrev pub behaviour_steps_at : Tree → Behaviour → ℕ → ℕ → List Step
+behaviour_steps_at t b i k = behaviour_steps_to t b i t.size k
 
 -- ---- weights
 -- whether a node's weight has a factor more than its parent's: no player i's own action leads there
@@ -53,8 +55,8 @@ weight_step t b i c =
     then step_of Mul (weight t b i (t.parent c)) (branch_probability t b c) ∷ [] else []
 
 -- the steps of all weights, in the order of the nodes
-abbrev pub weight_steps : Tree → Behaviour → ℕ → List Step
-weight_steps t b i = flat_map (weight_step t b i) (range_with_len 0 t.size)
+abbrev pub tree_weight_steps : Tree → Behaviour → ℕ → List Step
+tree_weight_steps t b i = flat_map (weight_step t b i) (range_with_len 0 t.size)
 
 -- ---- reply values
 -- the reply value of the node to which an action leads
@@ -130,8 +132,8 @@ decisions t b i choice = flat_map (decision_steps t b i choice) (reverse (own_se
 -- and what the reply pays
 abbrev pub best_steps : Tree → Behaviour → ℕ → (ℕ → ℕ) → List Step
 best_steps t b i choice =
-    weight_steps t b i ++ decisions t b i choice ++ reply_steps t b i choice 0
+    tree_weight_steps t b i ++ decisions t b i choice ++ reply_steps t b i choice 0
 
 -- all steps of player i: the payoff, and the best choices
-abbrev pub player_steps : Tree → Behaviour → ℕ → (ℕ → ℕ) → List Step
-player_steps t b i choice = now_steps_at t b i 0 ++ best_steps t b i choice
+abbrev pub tree_player_steps : Tree → Behaviour → ℕ → (ℕ → ℕ) → List Step
+tree_player_steps t b i choice = behaviour_steps_at t b i 0 ++ best_steps t b i choice

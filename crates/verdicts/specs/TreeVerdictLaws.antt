@@ -13,7 +13,7 @@ use Rattle.best_replies.specs.Replies.{AreBestChoices, HasBetterReply}
 use Rattle.frac128.specs.Steps.{StepFits}
 use Rattle.verdicts.specs.declared.trees.TreeVerdict.{TreeVerdict}
 use Rattle.verdicts.specs.declared.trees.TreeVerdict.TheVariants.{Equilibrium, Better}
-use Rattle.verdicts.specs.TreeSteps.{player_steps}
+use Rattle.verdicts.specs.TreeSteps.{tree_player_steps}
 use Rattle.verdicts.specs.TreeVerdicts.{IsTreeVerdict, tree_verdict}
 
 -- a tree in which all players recall and entries have at most one verdict, with one reply
@@ -27,7 +27,7 @@ TreeVerdictsAreSingle =
 abbrev pub AllPlayersFit : Tree → Behaviour → Type 0
 AllPlayersFit t b =
     (i : ℕ) (choice : ℕ → ℕ) → i < t.players → AreBestChoices t b i choice
-    → All StepFits (player_steps t b i choice)
+    → All StepFits (tree_player_steps t b i choice)
 
 -- A player has a better reply, no earlier player has one, and the reply's actions pay the most that
 -- any pure reply pays, which is this. At each of the player's sets the action is the first that is

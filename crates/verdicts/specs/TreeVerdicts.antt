@@ -12,13 +12,13 @@ use Rattle.best_replies.specs.Replies.{reply_value, AreBestChoices}
 use Rattle.frac128.specs.Steps.{Step, StepFits, IsFirstUnfit}
 use Rattle.verdicts.specs.declared.trees.TreeVerdict.{TreeVerdict}
 use Rattle.verdicts.specs.declared.trees.TreeVerdict.TheVariants.{Equilibrium, Better, Range}
-use Rattle.verdicts.specs.TreeSteps.{player_steps}
+use Rattle.verdicts.specs.TreeSteps.{tree_player_steps}
 
 -- player i passes: the steps fit, and the best choices pay no more
 pub record PassesTree (t : Tree) (b : Behaviour) (i : ℕ) : Type 0 where
   pub choice : ℕ → ℕ
   pub is_best : AreBestChoices t b i choice
-  pub fit : All StepFits (player_steps t b i choice)
+  pub fit : All StepFits (tree_player_steps t b i choice)
   pub no_more : reply_value t b i choice 0 ≤ℚ payoff_of t b i
 
 -- a player's best choices pay more, and no earlier player's do
@@ -28,7 +28,7 @@ pub record IsBetter (t : Tree) (b : Behaviour) (player : ℕ) (payoff best : ℚ
   pub earlier : (j : ℕ) → j < player → PassesTree t b j
   pub choice : ℕ → ℕ
   pub is_best : AreBestChoices t b player choice
-  pub fit : All StepFits (player_steps t b player choice)
+  pub fit : All StepFits (tree_player_steps t b player choice)
   pub payoff_is : payoff ≡ payoff_of t b player
   pub best_is : best ≡ reply_value t b player choice 0
   pub more : payoff <ℚ best
@@ -41,7 +41,7 @@ pub record IsOutOfRange (t : Tree) (b : Behaviour) (step : Step) : Type 0 where
   pub earlier : (j : ℕ) → j < player → PassesTree t b j
   pub choice : ℕ → ℕ
   pub is_best : AreBestChoices t b player choice
-  pub first : IsFirstUnfit (player_steps t b player choice) step
+  pub first : IsFirstUnfit (tree_player_steps t b player choice) step
 
 -- a verdict on behaviour, and the reply that comes with it
 abbrev pub IsTreeVerdict : Tree → Behaviour → TreeVerdict → List ℕ → Type 0

@@ -32,10 +32,10 @@ fn payoffs_on(alloc: Global, played: &PlayedBehaviour) -> Result<Vec<Frac>, Payo
     played.tree.stands_for_game_tree();
     let mut payoffs = Vec::new(alloc);
     for player in 0..played.tree.players().len() as u32 {
-        match played.value(player, 0) {
-            Ok(payoff) => payoffs.push(payoff)?,
-            Err(unfit) => return Err(PayoffStop::Range { player, unfit }),
-        }
+        let payoff = played
+            .value(player, 0)
+            .map_err(|unfit| PayoffStop::Range { player, unfit })?;
+        payoffs.push(payoff)?;
     }
     Ok(payoffs)
 }

@@ -1,5 +1,5 @@
 // Room for the check of a behaviour on a tree.
-ghost use Rattle.std.specs.Prelude.{◌≡◌, ◌+◌, ◌*◌, ◌<◌, ◌≤◌, length, IfOk};
+ghost use Rattle.std.specs.Prelude.{◌≡◌, ◌<◌, length, IfOk};
 ghost use Rattle.game_core.specs.TreeGame.{game_of_tree};
 
 use crate::trees_behaviour::PlayedBehaviour;
@@ -43,7 +43,6 @@ impl Scratch {
       [],
       length,
       map,
-      slice_get,
       slice_index,
     };
     ghost use Rattle.game_theory.specs.Behaviour.{Behaviour, payoff};
@@ -56,7 +55,7 @@ impl Scratch {
     ghost use Rattle.frac128.specs.Steps.{StepFits, IsFirstUnfit};
     ghost use Rattle.verdicts.specs.TreeScratches.{IsScratchOf, choices_of, reply_of};
     ghost use Rattle.verdicts.specs.TreeReplies.{AreChosen};
-    ghost use Rattle.verdicts.specs.TreeSteps.{player_steps};
+    ghost use Rattle.verdicts.specs.TreeSteps.{tree_player_steps};
     ghost use Rattle.behaviour_profile.specs.EntryStarts.{AreBehaviourEntries};
 
     /// Room for the check of a behaviour on this tree, with no reply.
@@ -82,15 +81,12 @@ impl Scratch {
         })
     }
 
-    /// The action of the reply at a place among its player's own sets in order; nothing exactly
-    /// past the end, and where the last check found no reply. Takes no memory.
-    pub fn reply(&self, place: u32) -> Option<u32>
-        ensures { result ≡ slice_get (reply_of self.now) place }
+    /// The reply: the action at each of its player's own sets in order; nothing where the last
+    /// check found no reply. Takes no memory.
+    pub fn reply(&self) -> &[u32]
+        ensures { result.now ≡ reply_of self.now }
     {
-        if place as usize >= self.replied {
-            return None;
-        }
-        self.reply.get(place as usize).copied()
+        &self.reply[..self.replied.min(self.reply.len())]
     }
 
     // Checks a player: what the behaviour pays, and what the best choices pay.
@@ -111,9 +107,9 @@ impl Scratch {
             → MatchResult result
             (λ pays. (pays.payoff ≡ payoff t b player)
             × (pays.best ≡ reply_value t b player choice 0)
-            × All StepFits (player_steps t b player choice)
+            × All StepFits (tree_player_steps t b player choice)
             × AreChosen t player choice (choices_of self.new))
-            (IsFirstUnfit (player_steps t b player choice)) }
+            (IsFirstUnfit (tree_player_steps t b player choice)) }
     {
         tree.stands_for_game_tree();
         let played = PlayedBehaviour {

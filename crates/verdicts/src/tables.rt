@@ -1,5 +1,5 @@
 // Whether a mixed profile of a table is an equilibrium.
-ghost use Rattle.std.specs.Prelude.{◌≡◌, ◌<◌, ◌++◌, List, length, sum, take};
+ghost use Rattle.std.specs.Prelude.{◌≡◌, ◌++◌, List, length, sum};
 ghost use Rattle.rational.specs.Rational.{ℚ, ◌+ℚ◌, ◌*ℚ◌};
 ghost use Rattle.game_core.specs.Table.{strategy_counts};
 ghost use Rattle.frac128.specs.Steps.{Step, StepsGive};
@@ -68,18 +68,10 @@ struct TableReplies<'a> {
     mixed: &'a Mixed,
     // The player.
     player: usize,
-}
-
-// Where a player's entries begin.
-fn first_entry(table: &Table, player: usize) -> usize
-    requires { player < length table.now.players }
-    ensures { result ≡ sum (take player (strategy_counts table.now)) }
-{
-    let mut first = 0;
-    for earlier in 0..player {
-        first += table.strategy_count(earlier);
-    }
-    first
+    // The place of the player's first entry.
+    first: usize,
+    // By how much a profile's number grows with the player's strategy.
+    stride: usize,
 }
 
 // Adds the product of a weight and a number to a sum; a weight of 0 adds nothing.
@@ -94,7 +86,7 @@ fn add_weighed(sum: Frac, weight: Frac, number: Frac) -> Result<Frac, Unfit>
 }
 
 // Adds the product of a weight and a number to a sum. A sum that is an error stays that error.
-fn with_share(sum: Result<Frac, Unfit>, weight: Frac, number: Frac) -> Result<Frac, Unfit>
+fn with_weighed(sum: Result<Frac, Unfit>, weight: Frac, number: Frac) -> Result<Frac, Unfit>
     ensures { (steps : List Step) (so_far : ℚ) → StepsGive steps so_far sum
         → StepsGive (steps ++ weighed_steps weight number so_far)
         (so_far +ℚ (weight *ℚ number)) result }
@@ -129,13 +121,13 @@ impl<'a> TableReplies<'a> {
     ghost use Rattle.verdicts.specs.TableChecks.{
       IsFound,
       payoff_steps,
-      player_steps,
+      table_player_steps,
       steps_at,
       strategy_steps,
       value_steps,
-      weight_steps,
+      table_weight_steps,
     };
-    ghost use Rattle.verdicts.specs.TableReplies.{AreTableReplies, game_at, mixed_at};
+    ghost use Rattle.verdicts.specs.TableReplies.{AreTableReplies, table_game_at, mixed_at};
 
     // The product of the probabilities with which the others play a profile.
     fn others_weight(&self, profile: usize) -> Result<Frac, Unfit>
@@ -143,7 +135,7 @@ impl<'a> TableReplies<'a> {
         ensures { let m = mixed_at self.now in
             let i = self.now.player in
             let strategies = profile_at (strategy_counts self.now.table.now) profile in
-            StepsGive (weight_steps m i strategies) (weight m i strategies) result }
+            StepsGive (table_weight_steps m i strategies) (weight m i strategies) result }
     {
         let entries = self.mixed.entries();
         let mut product = Frac::one();
@@ -179,9 +171,9 @@ impl<'a> TableReplies<'a> {
             → slice_index (profile_at (strategy_counts self.now.table.now) k) self.now.player
             ≡ strategy }
         requires so_far { let m = mixed_at self.now in
-            so_far ≡ value_below (game_at self.now) m self.now.player strategy first }
+            so_far ≡ value_below (table_game_at self.now) m self.now.player strategy first }
         ensures { let m = mixed_at self.now in
-            let g = game_at self.now in
+            let g = table_game_at self.now in
             let i = self.now.player in
             let value = value_below g m i strategy (first + count) in
             let steps = flat_map (steps_at g m i strategy) (range_with_len first count) in
@@ -201,17 +193,16 @@ impl<'a> TableReplies<'a> {
         requires strategy { strategy
             < slice_index (strategy_counts self.now.table.now) self.now.player }
         ensures { let m = mixed_at self.now in
-            let g = game_at self.now in
+            let g = table_game_at self.now in
             let i = self.now.player in
             StepsGive (strategy_steps g m i strategy) (value_of g m i strategy) result }
     {
-        let stride = self.table.stride(self.player);
         let profiles = self.table.payoffs().len() / self.table.players().len();
         let mut value = Frac::zero();
-        let mut first = strategy * stride;
+        let mut first = strategy * self.stride;
         while first < profiles {
-            value = self.add_profiles(strategy, value, first, stride)?;
-            first += stride * self.table.strategy_count(self.player);
+            value = self.add_profiles(strategy, value, first, self.stride)?;
+            first += self.stride * self.table.strategy_count(self.player);
         }
         Ok(value)
     }
@@ -220,27 +211,29 @@ impl<'a> TableReplies<'a> {
     fn tally(&self) -> Result<Tally, Unfit>
         requires replies { AreTableReplies self.now }
         ensures best { IfOk result (λ tally.
-            IsBestStrategy (game_at self.now) (mixed_at self.now) self.now.player
+            IsBestStrategy (table_game_at self.now) (mixed_at self.now) self.now.player
             tally.best.strategy) }
         ensures value { IfOk result (λ tally. tally.best.value
-            ≡ value_of (game_at self.now) (mixed_at self.now) self.now.player tally.best.strategy) }
+            ≡ value_of (table_game_at self.now) (mixed_at self.now) self.now.player
+            tally.best.strategy) }
         ensures payoff { let m = mixed_at self.now in
-            let g = game_at self.now in
+            let g = table_game_at self.now in
             let i = self.now.player in
             IfOk result (λ tally. StepsGive (payoff_steps g m i) (payoff_of g m i) tally.payoff) }
         ensures fits { OnOk result
-            (All StepFits (value_steps (game_at self.now) (mixed_at self.now) self.now.player)) }
+            (All StepFits
+            (value_steps (table_game_at self.now) (mixed_at self.now) self.now.player)) }
         ensures unfit { IfErr result
-            (IsFirstUnfit (value_steps (game_at self.now) (mixed_at self.now) self.now.player)) }
+            (IsFirstUnfit
+            (value_steps (table_game_at self.now) (mixed_at self.now) self.now.player)) }
     {
         let count = self.table.strategy_count(self.player);
-        let first = first_entry(self.table, self.player);
         let value = self.strategy_value(0)?;
         let mut best = Worth { strategy: 0, value };
-        let mut payoff = with_share(Ok(Frac::zero()), self.mixed.entries()[first], value);
+        let mut payoff = with_weighed(Ok(Frac::zero()), self.mixed.entries()[self.first], value);
         for strategy in 1..count {
             let value = self.strategy_value(strategy)?;
-            payoff = with_share(payoff, self.mixed.entries()[first + strategy], value);
+            payoff = with_weighed(payoff, self.mixed.entries()[self.first + strategy], value);
             if best.value.is_less(value) {
                 best = Worth {
                     strategy: strategy as u32,
@@ -255,9 +248,10 @@ impl<'a> TableReplies<'a> {
     fn better_reply(&self) -> Result<Option<BetterReply>, Unfit>
         requires replies { AreTableReplies self.now }
         ensures found { IfOk result
-            (IsFound (game_at self.now) (mixed_at self.now) self.now.player) }
+            (IsFound (table_game_at self.now) (mixed_at self.now) self.now.player) }
         ensures unfit { IfErr result
-            (IsFirstUnfit (player_steps (game_at self.now) (mixed_at self.now) self.now.player)) }
+            (IsFirstUnfit
+            (table_player_steps (table_game_at self.now) (mixed_at self.now) self.now.player)) }
     {
         let Tally { best, payoff } = self.tally()?;
         let payoff = payoff?;
@@ -279,11 +273,15 @@ pub fn check_table(table: &Table, mixed: &Mixed) -> TableVerdict
     requires { length mixed.now ≡ sum (strategy_counts table.now) }
     ensures { table_verdict table.now mixed.now result }
 {
+    let mut first = 0;
+    let mut stride = 1;
     for player in 0..table.players().len() {
         let replies = TableReplies {
             table,
             mixed,
             player,
+            first,
+            stride,
         };
         match replies.better_reply() {
             Ok(None) => {}
@@ -297,6 +295,9 @@ pub fn check_table(table: &Table, mixed: &Mixed) -> TableVerdict
             }
             Err(unfit) => return TableVerdict::Range { unfit },
         }
+        let count = table.strategy_count(player);
+        first += count;
+        stride *= count;
     }
     TableVerdict::Equilibrium
 }

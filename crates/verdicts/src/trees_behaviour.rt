@@ -28,11 +28,11 @@ impl<'a> PlayedBehaviour<'a> {
     ghost use Rattle.best_replies.specs.Reaching.{weight};
     ghost use Rattle.verdicts.specs.TreeBehaviours.{IsPlayedBehaviour, Reads, game_of};
     ghost use Rattle.verdicts.specs.TreeSteps.{
-      now_steps_after,
-      now_steps_at,
-      now_value_after,
+      behaviour_steps_after,
+      behaviour_steps_at,
+      behaviour_value_after,
       weight_step,
-      weight_steps,
+      tree_weight_steps,
     };
     ghost use Rattle.verdicts.specs.TreeWeights.{AreWeights};
 
@@ -61,7 +61,7 @@ impl<'a> PlayedBehaviour<'a> {
         requires node { node < length self.now.tree.now.nodes }
         requires player { player < length self.now.tree.now.players }
         ensures { (b : Behaviour) → Reads self.now b → let t = game_of self.now in
-            StepsGive (now_steps_at t b player node) (value t b player node) result }
+            StepsGive (behaviour_steps_at t b player node) (value t b player node) result }
     {
         let pays = self.tree.pays(node, player as usize);
         match self.tree.set_at(node) {
@@ -78,8 +78,8 @@ impl<'a> PlayedBehaviour<'a> {
         requires player { player < length self.now.tree.now.players }
         requires set { (game_of self.now).set node ≡ Some set }
         ensures { (b : Behaviour) → Reads self.now b → let t = game_of self.now in
-            let steps = now_steps_after t b player (now_steps_at t b player) node set in
-            StepsGive steps (now_value_after t b player node set) result }
+            let steps = behaviour_steps_after t b player (behaviour_steps_at t b player) node set in
+            StepsGive steps (behaviour_value_after t b player node set) result }
     {
         let mut sum = Frac::zero();
         for action in 0..self.tree.action_count(set) {
@@ -104,7 +104,7 @@ impl<'a> PlayedBehaviour<'a> {
         requires player { player < length self.now.tree.now.players }
         ensures { (b : Behaviour) → Reads self.now b → let t = game_of self.now in
             let v = value t b player child in
-            StepsGive (branch_steps probability sum v (now_steps_at t b player child))
+            StepsGive (branch_steps probability sum v (behaviour_steps_at t b player child))
             (sum +ℚ probability *ℚ v) result }
     {
         if probability.is_zero() {
@@ -148,8 +148,9 @@ impl<'a> PlayedBehaviour<'a> {
         requires weights { length weights.old ≡ length self.now.tree.now.nodes }
         ensures { (b : Behaviour) → Reads self.now b → let t = game_of self.now in
             MatchResult result
-            (λ _. AreWeights t b player weights.new t.size × All StepFits (weight_steps t b player))
-            (IsFirstUnfit (weight_steps t b player)) }
+            (λ _. AreWeights t b player weights.new t.size
+            × All StepFits (tree_weight_steps t b player))
+            (IsFirstUnfit (tree_weight_steps t b player)) }
     {
         for node in 0..self.tree.nodes().len() {
             let weight = self.next_weight(player, weights, node)?;

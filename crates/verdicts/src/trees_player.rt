@@ -8,7 +8,7 @@ ghost use Rattle.best_replies.specs.Replies.{reply_value, AreBestChoices};
 ghost use Rattle.frac128.specs.Steps.{StepFits, IsFirstUnfit};
 ghost use Rattle.verdicts.specs.TreeBehaviours.{IsPlayedBehaviour, Reads, game_of};
 ghost use Rattle.verdicts.specs.TreeReplies.{AreChosen};
-ghost use Rattle.verdicts.specs.TreeSteps.{best_steps, player_steps};
+ghost use Rattle.verdicts.specs.TreeSteps.{best_steps, tree_player_steps};
 
 use crate::trees_behaviour::PlayedBehaviour;
 use crate::trees_replies::TreeReplies;
@@ -73,8 +73,9 @@ pub(crate) fn check_player(
         Reads played.now b → AscendOnPaths t player → AreBestChoices t b player choice
         → MatchResult result
         (λ pays. (pays.payoff ≡ payoff t b player) × (pays.best ≡ reply_value t b player choice 0)
-        × All StepFits (player_steps t b player choice) × AreChosen t player choice choices.new)
-        (IsFirstUnfit (player_steps t b player choice)) }
+        × All StepFits (tree_player_steps t b player choice)
+        × AreChosen t player choice choices.new)
+        (IsFirstUnfit (tree_player_steps t b player choice)) }
 {
     let payoff = played.value(player, 0)?;
     let best = best_payoff(played, player, weights, choices, values)?;

@@ -35,13 +35,13 @@ impl<'a> TreeReplies<'a> {
     ghost use Rattle.frac128.specs.Steps.{StepFits, IsFirstUnfit, StepsGive};
     ghost use Rattle.best_replies.specs.Replies.{action_value, reply_value};
     ghost use Rattle.verdicts.specs.TreeReplies.{
-      AreChoices,
+      IsChoiceList,
       AreDecided,
       AreTreeReplies,
       OwnSetsFrom,
       after_steps_at,
       after_sum_at,
-      game_at,
+      tree_game_at,
     };
     ghost use Rattle.verdicts.specs.TreeSteps.{
       action_steps,
@@ -61,10 +61,10 @@ impl<'a> TreeReplies<'a> {
     #[cycle(values)]
     pub(crate) fn value(&self, choices: &[u32], values: &[Frac], node: usize) -> Result<Frac, Unfit>
         requires replies { AreTreeReplies self.now }
-        requires choices { AreChoices (game_at self.now) self.now.player choices.now }
+        requires choices { IsChoiceList (tree_game_at self.now) self.now.player choices.now }
         requires values { length values.now ≡ length self.now.tree.now.nodes }
         requires node { node < length self.now.tree.now.nodes }
-        ensures { (b : Behaviour) (choice : ℕ → ℕ) (first : ℕ) → let t = game_at self.now in
+        ensures { (b : Behaviour) (choice : ℕ → ℕ) (first : ℕ) → let t = tree_game_at self.now in
             let i = self.now.player in
             AreDecided t b i choice self.now.weights.now choices.now values.now first 0
             → OwnSetsFrom t i node first
@@ -79,10 +79,10 @@ impl<'a> TreeReplies<'a> {
     #[cycle(values)]
     fn value_after(&self, choices: &[u32], values: &[Frac], node: usize) -> Result<Frac, Unfit>
         requires replies { AreTreeReplies self.now }
-        requires choices { AreChoices (game_at self.now) self.now.player choices.now }
+        requires choices { IsChoiceList (tree_game_at self.now) self.now.player choices.now }
         requires values { length values.now ≡ length self.now.tree.now.nodes }
         requires node { node < length self.now.tree.now.nodes }
-        ensures { (b : Behaviour) (choice : ℕ → ℕ) (first : ℕ) → let t = game_at self.now in
+        ensures { (b : Behaviour) (choice : ℕ → ℕ) (first : ℕ) → let t = tree_game_at self.now in
             let i = self.now.player in
             AreDecided t b i choice self.now.weights.now choices.now values.now first 0
             → OwnSetsFrom t i node first
@@ -109,11 +109,11 @@ impl<'a> TreeReplies<'a> {
         set: usize,
     ) -> Result<Frac, Unfit>
         requires replies { AreTreeReplies self.now }
-        requires choices { AreChoices (game_at self.now) self.now.player choices.now }
+        requires choices { IsChoiceList (tree_game_at self.now) self.now.player choices.now }
         requires values { length values.now ≡ length self.now.tree.now.nodes }
         requires node { node < length self.now.tree.now.nodes }
-        requires set { (game_at self.now).set node ≡ Some set }
-        ensures { (b : Behaviour) (choice : ℕ → ℕ) (first : ℕ) → let t = game_at self.now in
+        requires set { (tree_game_at self.now).set node ≡ Some set }
+        ensures { (b : Behaviour) (choice : ℕ → ℕ) (first : ℕ) → let t = tree_game_at self.now in
             let i = self.now.player in
             AreDecided t b i choice self.now.weights.now choices.now values.now first 0
             → OwnSetsFrom t i node first
@@ -138,12 +138,12 @@ impl<'a> TreeReplies<'a> {
         action: usize,
     ) -> Result<Frac, Unfit>
         requires replies { AreTreeReplies self.now }
-        requires choices { AreChoices (game_at self.now) self.now.player choices.now }
+        requires choices { IsChoiceList (tree_game_at self.now) self.now.player choices.now }
         requires values { length values.old ≡ length self.now.tree.now.nodes }
         requires set { set < length self.now.tree.now.sets }
-        requires own { (game_at self.now).owner set ≡ Some self.now.player }
-        requires action { action < (game_at self.now).actions set }
-        ensures { (b : Behaviour) (choice : ℕ → ℕ) → let t = game_at self.now in
+        requires own { (tree_game_at self.now).owner set ≡ Some self.now.player }
+        requires action { action < (tree_game_at self.now).actions set }
+        ensures { (b : Behaviour) (choice : ℕ → ℕ) → let t = tree_game_at self.now in
             let i = self.now.player in
             AreDecided t b i choice self.now.weights.now choices.now values.old (suc set) action
             → MatchResult result
@@ -167,12 +167,12 @@ impl<'a> TreeReplies<'a> {
     // Decides an own set: its first action that is worth most.
     fn decide(&self, choices: &mut [u32], values: &mut [Frac], set: usize) -> Result<(), Unfit>
         requires replies { AreTreeReplies self.now }
-        requires choices { AreChoices (game_at self.now) self.now.player choices.old }
+        requires choices { IsChoiceList (tree_game_at self.now) self.now.player choices.old }
         requires values { length values.old ≡ length self.now.tree.now.nodes }
         requires set { set < length self.now.tree.now.sets }
-        requires own { (game_at self.now).owner set ≡ Some self.now.player }
-        ensures choices { AreChoices (game_at self.now) self.now.player choices.new }
-        ensures decided { (b : Behaviour) (choice : ℕ → ℕ) → let t = game_at self.now in
+        requires own { (tree_game_at self.now).owner set ≡ Some self.now.player }
+        ensures choices { IsChoiceList (tree_game_at self.now) self.now.player choices.new }
+        ensures decided { (b : Behaviour) (choice : ℕ → ℕ) → let t = tree_game_at self.now in
             let i = self.now.player in
             AreDecided t b i choice self.now.weights.now choices.old values.old (suc set) 0
             → MatchResult result
@@ -201,10 +201,10 @@ impl<'a> TreeReplies<'a> {
     /// The first step that does not fit.
     pub(crate) fn decide_all(&self, choices: &mut [u32], values: &mut [Frac]) -> Result<(), Unfit>
         requires replies { AreTreeReplies self.now }
-        requires choices { AreChoices (game_at self.now) self.now.player choices.old }
+        requires choices { IsChoiceList (tree_game_at self.now) self.now.player choices.old }
         requires values { length values.old ≡ length self.now.tree.now.nodes }
-        ensures choices { AreChoices (game_at self.now) self.now.player choices.new }
-        ensures decided { (b : Behaviour) (choice : ℕ → ℕ) → let t = game_at self.now in
+        ensures choices { IsChoiceList (tree_game_at self.now) self.now.player choices.new }
+        ensures decided { (b : Behaviour) (choice : ℕ → ℕ) → let t = tree_game_at self.now in
             let i = self.now.player in
             AreDecided t b i choice self.now.weights.now choices.old values.old t.sets 0
             → MatchResult result

@@ -245,9 +245,6 @@ module _ (b : ℕ → ℤ) (c : ℕ) (b0 : pos 0 <ℤ b 0) (h : b c ≢ pos 0) (
   entry_inverse : inv_ℚ (fraction b c) ≡ inv_ℚ (whole (b c)) *ℚ whole (b 0)
   entry_inverse = ap inv_ℚ (fraction_over b c b0) ∙ over_entry (whole (b c)) (whole (b 0)) (whole_ne (b c) h) (whole_ne (b 0) (pos_ne (b 0) b0))
 
-  exchanged_lead : exchanged c 0 ≡ c
-  exchanged_lead = refl
-
   exchanged_column : exchanged c c ≡ 0
   exchanged_column = rw (eqb_apart c 0 (λ e. omega (arith, e, hc)), eqb_same c) refl
 

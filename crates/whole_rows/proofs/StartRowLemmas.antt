@@ -10,7 +10,6 @@ use Rattle.std.proofs.lemmas.List.Elements.{All-append}
 use Rattle.std.proofs.lemmas.List.FromFn.{map-range_with_len_more}
 use native.Mathlib.Nat.{dvd-mul_right, div-mul_cancel, mul-dvd-mul_right, dvd_of_mul-dvd-mul_right, eq-one_of_dvd-one, one-mul}
 use Rattle.rational.specs.Gcd.{gcd, div_ℤ}
-use Rattle.whole_rows.specs.Pivots.{signed_by}
 use Rattle.rational.specs.GcdLaws.{gcd-is, gcd_pos}
 use Rattle.rational.proofs.GcdLemmas.{gcd-multiple, gauss}
 use Rattle.rational.specs.Rational.{ℚ, frac, zero_ℚ}
@@ -159,7 +158,7 @@ numerator_unfit cells b k (suc n) e l f h same = subst (λ s. IsFirstUnfit s e) 
 ])
 
 -- ---- what the code reads
-pub added_is : (common den g r : ℤ) → pos 0 <ℤ den → g ≡ pos (gcd (nat_abs common) (nat_abs den)) → r ≡ div_ℤ (signed_by den den) (nat_abs g) → r ≡ pos (nat_abs den / gcd (nat_abs common) (nat_abs den))
+pub added_is : (common den g r : ℤ) → pos 0 <ℤ den → g ≡ pos (gcd (nat_abs common) (nat_abs den)) → r ≡ div_ℤ den (nat_abs g) → r ≡ pos (nat_abs den / gcd (nat_abs common) (nat_abs den))
 added_is common (pos d) g r h e f = f ∙ ap (λ z. div_ℤ (pos d) (nat_abs z)) e
 added_is common (negsuc d) g r h e f = absurd (omega (arith, ints))
 

@@ -1,6 +1,5 @@
 -- Rows that stand in a list of numbers. `own` and `first` are where a row and the pivot's row
--- begin, and column is the
--- place of the pivot's column.
+-- begin, and `column` is the place of the pivot's column.
 use Rattle.std.specs.Prelude.{ℕ, ℤ, pos, ◌*ℤ◌, ◌+◌, ◌*◌, ◌<◌, ◌≤◌, ◌≡◌, ◌≢◌, ◌⊎◌, List, get_or, Option, MatchOption, IfSome, eqb, cond, [], All}
 use Rattle.rational.specs.Rational.{ℚ}
 use Rattle.frac128.specs.Fraction.{PartFits}
@@ -15,11 +14,11 @@ use Rattle.whole_rows.specs.StartRows.{cells_from, IsStartRow}
 abbrev pub row_at : ℕ → List ℤ → ℕ → ℕ → ℤ
 row_at size numbers i = from_place numbers (i * size)
 
--- each number fits 128 bits
+-- each number is a part that fits
 abbrev pub AllPartsFit : List ℤ → Type 0
 AllPartsFit numbers = (k : ℕ) → PartFits (get_or numbers k (pos 0))
 
--- the numbers of a row fit 128 bits
+-- each number of a row is a part that fits
 abbrev pub RowFits : ℕ → (ℕ → ℤ) → Type 0
 RowFits size row = (p : ℕ) → p < size → PartFits (row p)
 

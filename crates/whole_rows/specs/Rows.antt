@@ -21,8 +21,8 @@ pub record IsGreatestDivisor (row : ℕ → ℤ) (size g : ℕ) : Type 0 where
   pub divides : (place : ℕ) → place < size → g ∣ nat_abs (row place)
   pub greatest : (d : ℕ) → ((place : ℕ) → place < size → d ∣ nat_abs (row place)) → d ∣ g
 
--- a row of so many numbers: its coefficient is positive, each number fits 128 bits, and 1 alone
--- divides all of them
+-- a row of so many numbers: its coefficient is positive, each number is a part that fits, and 1
+-- alone divides all of them
 pub record IsRow (size : ℕ) (row : ℕ → ℤ) : Type 0 where
   pub positive : pos 0 <ℤ row 0
   pub fits : (place : ℕ) → place < size → PartFits (row place)

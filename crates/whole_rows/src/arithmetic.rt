@@ -1,5 +1,5 @@
 // Products and differences of whole numbers, where they fit, and the steps that do not.
-ghost use Rattle.std.specs.Prelude.{◌≡◌, ◌<◌, ◌≤◌, ◌^◌, ◌*ℤ◌, ◌-ℤ◌, ◌≤ℤ◌, ◌<ℤ◌, ◌↔◌, nat_abs, pos, neg_ℤ, IsTrue, IfSome, MatchOption, All};
+ghost use Rattle.std.specs.Prelude.{◌≡◌, ◌<◌, ◌≤◌, ◌^◌, ◌*ℤ◌, ◌-ℤ◌, ◌<ℤ◌, nat_abs, pos, IfSome, MatchOption, All};
 ghost use Rattle.std.specs.Int.{◌∣◌};
 ghost use Rattle.std.specs.Ordering.{int_cmp};
 ghost use Rattle.rational.specs.Rational.{frac};
@@ -13,33 +13,13 @@ ghost use Rattle.whole_rows.specs.Steps.{combination_steps, difference_step, pro
 use frac128::{Frac, Op, Unfit, cmp_signed_quotients};
 use std::cmp::Ordering;
 
-// 2^63.
-const TWO_TO_63: i128 = 9223372036854775808;
-
-// Whether a number fits 64 bits.
-fn fits_64_bits(n: i128) -> bool
-    ensures { IsTrue result ↔ ((neg_ℤ (pos (2 ^ 63)) ≤ℤ n) × (n <ℤ pos (2 ^ 63))) }
-{
-    -TWO_TO_63 <= n && n < TWO_TO_63
-}
-
-// A number that fits 64 bits.
-fn shortened(n: i128) -> i64
-    requires low { neg_ℤ (pos (2 ^ 63)) ≤ℤ n }
-    requires high { n <ℤ pos (2 ^ 63) }
-    ensures { result ≡ n }
-{
-    n as i64
-}
-
 // The number, where it has no more than 64 bits and its negative has no more.
 pub(crate) fn short_factor(n: i128) -> Option<i64>
     ensures { IfSome result (λ u. (u ≡ n) × IsShort u) }
 {
-    if -TWO_TO_63 < n && n < TWO_TO_63 {
-        Some(n as i64)
-    } else {
-        None
+    match i64::try_from(n) {
+        Ok(short) if short > i64::MIN => Some(short),
+        _ => None,
     }
 }
 
@@ -56,10 +36,9 @@ pub(crate) fn short_times(a: i128, u: i64) -> Option<i128>
     requires { IsShort u }
     ensures { IfSome result (λ p. (p ≡ a *ℤ u) × (nat_abs p < 2 ^ 126) × (nat_abs a ≤ 2 ^ 63)) }
 {
-    if fits_64_bits(a) {
-        Some(short_product(shortened(a), u))
-    } else {
-        None
+    match i64::try_from(a) {
+        Ok(short) => Some(short_product(short, u)),
+        Err(_) => None,
     }
 }
 
@@ -77,8 +56,8 @@ pub(crate) fn short_difference(p: i128, q: i128) -> i128
 pub(crate) fn product(a: i128, b: i128) -> Option<i128>
     ensures { MatchOption result (¬ (PartFits (a *ℤ b))) (λ p. (p ≡ a *ℤ b) × PartFits p) }
 {
-    if fits_64_bits(a) && fits_64_bits(b) {
-        return Some(short_product(shortened(a), shortened(b)));
+    if let (Ok(a), Ok(b)) = (i64::try_from(a), i64::try_from(b)) {
+        return Some(short_product(a, b));
     }
     let p = a.checked_mul(b)?;
     if p == i128::MIN {
@@ -176,11 +155,10 @@ pub(crate) fn exact_quotient(n: i128, d: i128) -> i128
     ensures value { result *ℤ d ≡ n }
     ensures fits { PartFits result }
 {
-    if fits_64_bits(n) && fits_64_bits(d) {
-        short_quotient(shortened(n), shortened(d)) as i128
-    } else {
-        n / d
+    if let (Ok(n), Ok(d)) = (i64::try_from(n), i64::try_from(d)) {
+        return short_quotient(n, d) as i128;
     }
+    n / d
 }
 
 /// The order of n / b and m / d. No product of more than 128 bits is made.
@@ -189,9 +167,13 @@ pub fn compare_quotients(n: i128, b: i128, m: i128, d: i128) -> Ordering
     requires right { pos 0 <ℤ d }
     ensures { result ≡ int_cmp (n *ℤ d) (m *ℤ b) }
 {
-    if fits_64_bits(n) && fits_64_bits(b) && fits_64_bits(m) && fits_64_bits(d) {
-        let left = short_product(shortened(n), shortened(d));
-        return left.cmp(&short_product(shortened(m), shortened(b)));
+    if let (Ok(n), Ok(b), Ok(m), Ok(d)) = (
+        i64::try_from(n),
+        i64::try_from(b),
+        i64::try_from(m),
+        i64::try_from(d),
+    ) {
+        return short_product(n, d).cmp(&short_product(m, b));
     }
     cmp_signed_quotients(n, b.unsigned_abs(), m, d.unsigned_abs())
 }

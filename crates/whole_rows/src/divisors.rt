@@ -43,10 +43,7 @@ impl Divisor {
     pub fn of(by: i128) -> Option<Divisor>
         ensures { IfSome result (λ d. pos d.value ≡ by) }
     {
-        match u64::try_from(by) {
-            Ok(value) => Some(Divisor::new(value)),
-            Err(_) => None,
-        }
+        u64::try_from(by).ok().map(Divisor::new)
     }
 
     /// The divisor with this value.

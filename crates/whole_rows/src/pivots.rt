@@ -6,7 +6,7 @@ ghost use Rattle.frac128.specs.Fraction.{PartFits};
 ghost use Rattle.whole_rows.specs.Lists.{AgreeOutside, AllPartsFit, AreOthersPivoted, AreRows, IsPivotAt, IsPivotedAt, IsPivotedRowAt, RowFits, row_steps_at, steps_of_row, steps_of_rows};
 ghost use Rattle.whole_rows.specs.PivotedRows.{IsPrimitivePart};
 ghost use Rattle.whole_rows.specs.Pivots.{other_factor, own_factor, signed_by};
-ghost use Rattle.whole_rows.specs.Rows.{IsGreatestDivisor, IsRow, from_place};
+ghost use Rattle.whole_rows.specs.Rows.{IsGreatestDivisor, from_place};
 ghost use Rattle.frac128.specs.Steps.{StepFits, IsFirstUnfit};
 
 use crate::arithmetic::{exact_quotient, short_factor};
@@ -37,7 +37,7 @@ pub(crate) fn common_part(p: i128, k: i128) -> i128
 }
 
 // A number times the sign of p, divided.
-pub(crate) fn factor(p: i128, n: i128, common: i128) -> i128
+fn factor(p: i128, n: i128, common: i128) -> i128
     requires positive { pos 0 <ℤ common }
     requires fits { PartFits n }
     requires divides { nat_abs common ∣ nat_abs n }

@@ -7,7 +7,7 @@ ghost use Rattle.whole_rows.specs.StartRows.{IsCommonDenominator, cells_from, co
 ghost use Rattle.frac128.specs.Steps.{StepFits, IsFirstUnfit};
 
 use crate::arithmetic::{exact_quotient, product, unfit_product};
-use crate::pivots::{common_part, factor};
+use crate::pivots::common_part;
 use frac128::{Frac, Unfit};
 
 // What a denominator adds to a common one.
@@ -19,7 +19,7 @@ fn added(common: i128, den: i128) -> i128
     ensures value { result ≡ pos (nat_abs den / gcd_of (nat_abs common) (nat_abs den)) }
     ensures fits { PartFits result }
 {
-    factor(den, den, common_part(common, den))
+    exact_quotient(den, common_part(common, den))
 }
 
 // The least common denominator of a row.

@@ -13,10 +13,11 @@ use Rattle.words.specs.declared.Usage.{Usage}
 use Rattle.words.specs.declared.Usage.TheVariants.{NoTool, UnknownTool, Words}
 use Rattle.words.specs.Grammar.{Options, Part, has_flag, has_prices, word_parts, plain_of, values_of}
 
--- A tool and how it works; a file that is None is standard input. Where `all` is true, `enummixed` looks
--- through all strategies, and else without the strictly dominated ones. Where `agents` or `perfect` is
--- true, `enumpure` lists the choices that are equilibria of the agent form, or in every subgame; where
--- `perfect` is true, `lcp` and `lp` find behaviour that is an equilibrium in every subgame.
+-- A tool and how it works; a file that is None is standard input. Where `all` is true, `enummixed`
+-- looks through all strategies, and else without the strictly dominated ones. Where `agents` or
+-- `perfect` is true, `enumpure` lists the choices that are equilibria of the agent form, or in
+-- every subgame; where `perfect` is true, `lcp` and `lp` find behaviour that is an equilibrium in
+-- every subgame.
 pub data Command : Type 0 where
   Enumpure : (strategic agents perfect : Bool) → (file : Option (List ℕ)) → Command
   Enummixed : (all : Bool) → (workers : ℕ) → (file : Option (List ℕ)) → Command
@@ -48,7 +49,8 @@ number_or default least most (Some text) = number_in_range least most text
 
 -- the number that an option gives, or its default
 abbrev pub number_from : ℕ → (least most : ℕ) → List (List ℕ) → Option ℕ
-number_from default least most texts = option_and_then (number_or default least most) (at_most_one texts)
+number_from default least most texts =
+    option_and_then (number_or default least most) (at_most_one texts)
 
 -- `-j`
 abbrev pub workers_from : List (List ℕ) → Option ℕ
@@ -66,7 +68,9 @@ is_one_or_none (Some text) = bytes_eq text (codes "1")
 -- `-O`, which must be there
 abbrev pub layout_of : Option (List ℕ) → Option Layout
 layout_of None = None
-layout_of (Some text) = if bytes_eq text (codes "html") then Some Html else if bytes_eq text (codes "sgame") then Some Sgame else None
+layout_of (Some text) =
+    if bytes_eq text (codes "html") then Some Html else if bytes_eq text (codes "sgame")
+    then Some Sgame else None
 
 -- ---- the tools, each with its options and what they say
 
@@ -97,11 +101,13 @@ enummixed_options = record { flags = codes "qD"; valued = codes "j"; prices = fa
 
 -- what `enummixed` is asked for
 abbrev pub enummixed_settings : (all : Bool) → (workers plain : List (List ℕ)) → Option Command
-enummixed_settings all workers plain = option_and_then (λ n. option_map (Enummixed all n) (at_most_one plain)) (workers_from workers)
+enummixed_settings all workers plain =
+    option_and_then (λ n. option_map (Enummixed all n) (at_most_one plain)) (workers_from workers)
 
 -- what the parts of the words after `enummixed` ask for
 abbrev pub enummixed_of : List Part → Option Command
-enummixed_of parts = enummixed_settings (has_flag (letter "D") parts) (values_of (letter "j") parts) (plain_of parts)
+enummixed_of parts =
+    enummixed_settings (has_flag (letter "D") parts) (values_of (letter "j") parts) (plain_of parts)
 
 -- the options of `lcp`
 abbrev pub lcp_options : Options
@@ -145,13 +151,16 @@ convert_options = record { flags = codes "q"; valued = codes "Orc"; prices = fal
 
 -- what `convert` is asked for
 abbrev pub convert_settings : (layouts rows columns plain : List (List ℕ)) → Option Command
-convert_settings layouts rows columns plain = option_and_then (λ layout. option_and_then (λ row. option_and_then (λ column.
+convert_settings layouts rows columns plain =
+    option_and_then (λ layout. option_and_then (λ row. option_and_then (λ column.
     option_map (Convert layout row column) (at_most_one plain))
     (player_from 2 columns)) (player_from 1 rows)) (option_and_then layout_of (at_most_one layouts))
 
 -- what the parts of the words after `convert` ask for
 abbrev pub convert_of : List Part → Option Command
-convert_of parts = convert_settings (values_of (letter "O") parts) (values_of (letter "r") parts) (values_of (letter "c") parts) (plain_of parts)
+convert_of parts =
+    convert_settings (values_of (letter "O") parts) (values_of (letter "r") parts)
+    (values_of (letter "c") parts) (plain_of parts)
 
 -- the options of `check`
 abbrev pub check_options : Options
@@ -172,8 +181,10 @@ make_options = record { flags = codes "q"; valued = codes "j"; prices = false }
 
 -- the number, the rows and the columns of `make`
 abbrev pub table_settings : (workers : ℕ) → List (List ℕ) → Option Command
-table_settings workers (number ∷ rows ∷ columns ∷ []) = option_and_then (λ n. option_and_then (λ r. option_map (λ c. Make n r c workers)
-    (number_in_range 1 32 columns)) (number_in_range 1 32 rows)) (number_in_range 0 2147483647 number)
+table_settings workers (number ∷ rows ∷ columns ∷ []) =
+    option_and_then (λ n. option_and_then (λ r. option_map (λ c. Make n r c workers)
+    (number_in_range 1 32 columns)) (number_in_range 1 32 rows))
+    (number_in_range 0 2147483647 number)
 table_settings workers plain = None
 
 -- what `make` is asked for
@@ -195,14 +206,18 @@ abbrev pub understood : Option Command → Result Command Usage
 understood (Some command) = Ok command
 understood None = Err Words
 
--- The command that the words after the program's name give, or how they are refused: the first word names the tool.
+-- The command that the words after the program's name give, or how they are refused: the first word
+-- names the tool.
 abbrev pub command_from : List (List ℕ) → Result Command Usage
 command_from [] = Err NoTool
-command_from (tool ∷ words) = if bytes_eq tool (codes "enumpure") then understood (answer enumpure_options enumpure_of words)
-    else if bytes_eq tool (codes "enummixed") then understood (answer enummixed_options enummixed_of words)
+command_from (tool ∷ words) =
+    if bytes_eq tool (codes "enumpure") then understood (answer enumpure_options enumpure_of words)
+    else if bytes_eq tool (codes "enummixed")
+    then understood (answer enummixed_options enummixed_of words)
     else if bytes_eq tool (codes "lcp") then understood (answer lcp_options lcp_of words)
     else if bytes_eq tool (codes "lp") then understood (answer lp_options lp_of words)
-    else if bytes_eq tool (codes "convert") then understood (answer convert_options convert_of words)
+    else if bytes_eq tool (codes "convert")
+    then understood (answer convert_options convert_of words)
     else if bytes_eq tool (codes "check") then understood (answer check_options check_of words)
     else if bytes_eq tool (codes "make") then understood (answer make_options make_of words)
     else Err UnknownTool
@@ -214,7 +229,8 @@ IsFrom least most n = (least ≤ n) × (n ≤ most)
 -- the numbers of workers and of strategies that a command names are within their ranges
 abbrev pub IsWithinRanges : Command → Type 0
 IsWithinRanges (Enummixed all workers file) = IsFrom 1 64 workers
-IsWithinRanges (Make number rows columns workers) = IsFrom 1 32 rows × IsFrom 1 32 columns × IsFrom 1 64 workers
+IsWithinRanges (Make number rows columns workers) =
+    IsFrom 1 32 rows × IsFrom 1 32 columns × IsFrom 1 64 workers
 IsWithinRanges _ = Unit {0}
 
 -- ---- the code's answers
@@ -223,18 +239,25 @@ IsWithinRanges _ = Unit {0}
 abbrev pub command_of : Settings → Command
 command_of (settings.Enumpure strategic agents perfect file) =
     Enumpure strategic agents perfect (option_map string_bytes file)
-command_of (settings.Enummixed all workers file) = Enummixed all workers (option_map string_bytes file)
+command_of (settings.Enummixed all workers file) =
+    Enummixed all workers (option_map string_bytes file)
 command_of (settings.Lcp strategic perfect file) =
     Lcp strategic perfect (option_map string_bytes file)
 command_of (settings.Lp strategic prices perfect file) =
     Lp strategic prices perfect (option_map string_bytes file)
-command_of (settings.Convert layout row column file) = Convert layout row column (option_map string_bytes file)
-command_of (settings.Check strategic game lines) = Check strategic (string_bytes game) (option_map string_bytes lines)
+command_of (settings.Convert layout row column file) =
+    Convert layout row column (option_map string_bytes file)
+command_of (settings.Check strategic game lines) =
+    Check strategic (string_bytes game) (option_map string_bytes lines)
 command_of (settings.Make number rows columns workers) = Make number rows columns workers
 
--- why there is no answer: the words are refused, or memory ran out
+-- there is no answer: the words are not understood
+abbrev pub IsNotUnderstood : {X : Type 0} → Option X → Usage → Type 0
+IsNotUnderstood answer usage = (answer ≡ None) × (usage ≡ Words)
+
+-- why there is no answer: the words are not understood, or memory ran out
 abbrev pub IsRefused : {X : Type 0} → Option X → SettingsStop → Type 0
-IsRefused answer (stops.Usage usage) = (answer ≡ None) × (usage ≡ Words)
+IsRefused answer (stops.Usage usage) = IsNotUnderstood answer usage
 IsRefused answer stops.Memory = Unit {0}
 
 -- the settings are those of the answer, or there is none, or memory ran out

@@ -136,6 +136,17 @@ pub enum SettingsStop {
     Memory,
 }
 
+impl From<Usage> for SettingsStop {
+    ghost use Rattle.std.specs.Prelude.{◌≡◌};
+    ghost use Rattle.words.specs.declared.SettingsStop.TheVariants as stops;
+
+    ghost from_gives = { λ usage e. e ≡ stops.Usage usage };
+
+    fn from(usage: Usage) -> SettingsStop {
+        SettingsStop::Usage(usage)
+    }
+}
+
 impl From<AllocError> for SettingsStop {
     ghost use Rattle.std.specs.Prelude.{◌≡◌};
     ghost use Rattle.words.specs.declared.SettingsStop.TheVariants as stops;

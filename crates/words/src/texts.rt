@@ -2,21 +2,21 @@
 
 ghost use Rattle.std.specs.Prelude.{◌≡◌, Some, option_map, string_bytes, IfOk, IfErr};
 ghost use Rattle.words.specs.Commands.{collected};
-ghost use Rattle.words.specs.Words.{at_most_one, is_one_or_none, layout_of, number_from, number_in_range, IsRefused};
+ghost use Rattle.words.specs.Words.{at_most_one, is_one_or_none, layout_of, number_from, number_in_range, IsNotUnderstood, IsRefused};
 
 use crate::{Layout, SettingsStop, Usage};
 use std::alloc::Global;
 
 /// The text, where there is at most one.
-pub(crate) fn at_most_one<'a>(texts: Option<&[&'a str]>) -> Result<Option<&'a str>, SettingsStop>
+pub(crate) fn at_most_one<'a>(texts: Option<&[&'a str]>) -> Result<Option<&'a str>, Usage>
     ensures one { IfOk result (λ t. at_most_one (collected texts.entry)
         ≡ Some (option_map (λ s. s.now) t)) }
-    ensures refused { IfErr result (IsRefused (at_most_one (collected texts.entry))) }
+    ensures refused { IfErr result (IsNotUnderstood (at_most_one (collected texts.entry))) }
 {
     match texts {
         None | Some([]) => Ok(None),
         Some([text]) => Ok(Some(*text)),
-        Some(_) => Err(SettingsStop::Usage(Usage::Words)),
+        Some(_) => Err(Usage::Words),
     }
 }
 
@@ -64,19 +64,16 @@ pub(crate) fn number_from(
     default: u32,
     least: u32,
     most: u32,
-) -> Result<u32, SettingsStop>
+) -> Result<u32, Usage>
     ensures number { IfOk result (λ n. number_from default least most (collected texts.entry)
         ≡ Some n) }
     ensures refused { IfErr result
-        (IsRefused (number_from default least most (collected texts.entry))) }
+        (IsNotUnderstood (number_from default least most (collected texts.entry))) }
 {
     let Some(text) = at_most_one(texts)? else {
         return Ok(default);
     };
-    match number_in_range(text, least, most) {
-        Some(number) => Ok(number),
-        None => Err(SettingsStop::Usage(Usage::Words)),
-    }
+    number_in_range(text, least, most).ok_or(Usage::Words)
 }
 
 /// Whether `-e` is left out, or is `1`.

@@ -1,8 +1,8 @@
 // What the words say to each tool.
 
-ghost use Rattle.std.specs.Prelude.{map, string_bytes};
+ghost use Rattle.std.specs.Prelude.{◌≡◌, Some, map, string_bytes, IfOk, IfErr};
 ghost use Rattle.words.specs.Commands.{collected};
-ghost use Rattle.words.specs.Words.{answer, IsAnswer};
+ghost use Rattle.words.specs.Words.{answer, command_of, IsAnswer, IsNotUnderstood};
 ghost use Rattle.words.specs.Words.{enumpure_of, enumpure_options, enumpure_settings};
 ghost use Rattle.words.specs.Words.{enummixed_of, enummixed_options, enummixed_settings};
 ghost use Rattle.words.specs.Words.{lcp_of, lcp_options, lcp_settings};
@@ -17,6 +17,15 @@ use crate::texts::{
 };
 use crate::{Settings, SettingsStop, Usage};
 use std::alloc::Global;
+
+// The most workers that share an enumeration.
+const MOST_WORKERS: u32 = 64;
+
+// The largest number that `make` takes.
+const LARGEST_NUMBER: u32 = 2_147_483_647;
+
+// The most strategies of a player in a table that `make` makes.
+const MOST_STRATEGIES: u32 = 32;
 
 // The settings of `enumpure`, by what its words give.
 fn enumpure(
@@ -65,7 +74,7 @@ fn enummixed(
         (collected workers.entry)
         (collected plain.entry)) result }
 {
-    let workers = number_from(workers, 1, 1, 64)?;
+    let workers = number_from(workers, 1, 1, MOST_WORKERS)?;
     let file = file_from(alloc, plain)?;
     Ok(Settings::Enummixed { all, workers, file })
 }
@@ -172,9 +181,7 @@ fn convert(
         (collected plain.entry)) result }
 {
     let name = at_most_one(layouts)?;
-    let Some(layout) = layout_of(name) else {
-        return Err(SettingsStop::Usage(Usage::Words));
-    };
+    let layout = layout_of(name).ok_or(Usage::Words)?;
     let row = number_from(rows, 1, 1, u32::MAX)?;
     let column = number_from(columns, 2, 1, u32::MAX)?;
     let file = file_from(alloc, plain)?;
@@ -227,22 +234,20 @@ pub(crate) fn read_check(alloc: Global, words: &[String]) -> Result<Settings, Se
 }
 
 // The settings of `make`, by what its words give.
-fn make(workers: Option<&[&str]>, plain: Option<&[&str]>) -> Result<Settings, SettingsStop>
-    ensures { IsAnswer (make_settings (collected workers.entry) (collected plain.entry)) result }
+fn make(workers: Option<&[&str]>, plain: Option<&[&str]>) -> Result<Settings, Usage>
+    ensures settings { IfOk result
+        (λ s. make_settings (collected workers.entry) (collected plain.entry)
+        ≡ Some (command_of s)) }
+    ensures refused { IfErr result
+        (IsNotUnderstood (make_settings (collected workers.entry) (collected plain.entry))) }
 {
-    let workers = number_from(workers, 1, 1, 64)?;
+    let workers = number_from(workers, 1, 1, MOST_WORKERS)?;
     let Some([number, rows, columns]) = plain else {
-        return Err(SettingsStop::Usage(Usage::Words));
+        return Err(Usage::Words);
     };
-    let Some(number) = number_in_range(number, 0, 2147483647) else {
-        return Err(SettingsStop::Usage(Usage::Words));
-    };
-    let Some(rows) = number_in_range(rows, 1, 32) else {
-        return Err(SettingsStop::Usage(Usage::Words));
-    };
-    let Some(columns) = number_in_range(columns, 1, 32) else {
-        return Err(SettingsStop::Usage(Usage::Words));
-    };
+    let number = number_in_range(number, 0, LARGEST_NUMBER).ok_or(Usage::Words)?;
+    let rows = number_in_range(rows, 1, MOST_STRATEGIES).ok_or(Usage::Words)?;
+    let columns = number_in_range(columns, 1, MOST_STRATEGIES).ok_or(Usage::Words)?;
     Ok(Settings::Make {
         number,
         rows,
@@ -259,5 +264,5 @@ pub(crate) fn read_make(alloc: Global, words: &[String]) -> Result<Settings, Set
     let matches = read_words(command, words)?;
     let workers = given(&matches, "-j");
     let plain = given(&matches, "words");
-    make(workers, plain)
+    Ok(make(workers, plain)?)
 }

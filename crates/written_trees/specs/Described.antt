@@ -1,4 +1,5 @@
--- The game tree that written nodes describe. Source: Gambit's description of its `.efg` format, version 2.
+-- The game tree that written nodes describe. Source: Gambit's description of its `.efg` format,
+-- version 2.
 use Rattle.std.specs.Prelude.{ℕ, suc, ◌<◌, ◌≡◌, ◌≢◌, ◌↔◌, ◌&&◌, nat_eq, Bool, List, [], ◌∷◌, length, map, slice_get, filter, All, Contains, IfSome, option_map, unwrap_or, Option, Some, None}
 use Rattle.std.specs.Option.{option_eq}
 use Rattle.rational.specs.Rational.{ℚ, zero_ℚ}
@@ -31,7 +32,8 @@ set_uses nodes = uses_from (λ node. node.set) 0 nodes
 abbrev pub outcome_uses : List WrittenNode → List (ℕ × OutcomeUse)
 outcome_uses nodes = uses_from (λ node. node.outcome) 0 nodes
 
--- A set is told from others by its owner and its number: chance and each player number their sets separately.
+-- A set is told from others by its owner and its number: chance and each player number their sets
+-- separately.
 abbrev pub SetKey : Type 0
 SetKey = Option ℕ × ℕ
 
@@ -46,12 +48,15 @@ pub record IsFirstUse {K : Type 0} (used : List K) (place : ℕ) (key : K) : Typ
   pub is_there : slice_get used place ≡ Some key
   pub none_before : (earlier : ℕ) → earlier < place → slice_get used earlier ≡ Some key → ⊥
 
--- The keys that are used, each once, in the order of their first uses: no key stands there twice, they are the same keys, and of two
--- keys the one that stands before the other is used before it.
+-- The keys that are used, each once, in the order of their first uses: no key stands there twice,
+-- they are the same keys, and of two keys the one that stands before the other is used before it.
 pub record AreFirstUses {K : Type 0} (used keys : List K) : Type 0 where
-  pub none_twice : (i j : ℕ) (key : K) → slice_get keys i ≡ Some key → slice_get keys j ≡ Some key → i ≡ j
+  pub none_twice : (i j : ℕ) (key : K) → slice_get keys i ≡ Some key → slice_get keys j ≡ Some key
+      → i ≡ j
   pub same_keys : (key : K) → Contains keys key ↔ Contains used key
-  pub ascending : (i j p q : ℕ) (one other : K) → slice_get keys i ≡ Some one → slice_get keys j ≡ Some other → IsFirstUse used p one → IsFirstUse used q other → i < j → p < q
+  pub ascending : (i j p q : ℕ) (one other : K) → slice_get keys i ≡ Some one
+      → slice_get keys j ≡ Some other → IsFirstUse used p one → IsFirstUse used q other → i < j
+      → p < q
 
 -- a number names a key among these, and there is no number where there is no key
 abbrev pub Names : {K : Type 0} → List K → Option ℕ → Option K → Type 0
@@ -88,7 +93,8 @@ abbrev pub first_list : {A : Type 0} → List (Option (List A)) → List A
 first_list [] = []
 first_list (list ∷ later) = unwrap_or list []
 
--- a set has its first name, which is empty where none is given, the actions of its first use, and the nodes that use it
+-- a set has its first name, which is empty where none is given, the actions of its first use, and
+-- the nodes that use it
 abbrev pub described_set : SetKey → List (ℕ × SetUse) → InformationSet
 described_set key uses = record {
   owner = key.0;
@@ -98,7 +104,8 @@ described_set key uses = record {
   members = map (λ x. x.0) uses;
 }
 
--- an outcome has its first name, which is empty where none is given, and the payoffs of its first use
+-- an outcome has its first name, which is empty where none is given, and the payoffs of its first
+-- use
 abbrev pub described_outcome : ℕ → List (ℕ × OutcomeUse) → TreeOutcome
 described_outcome label uses = record {
   label = label;
@@ -106,10 +113,12 @@ described_outcome label uses = record {
   payoffs = first_list (map (λ x. x.1.payoffs) uses);
 }
 
--- the actions of chance have a probability distribution, in which each can be added to the sum of those before it
+-- the actions of chance have a probability distribution, in which each can be added to the sum of
+-- those before it
 pub record AddUpToOne (actions : List Action) : Type 0 where
   pub is_distribution : IsDistribution (length actions) (probability_at actions)
-  pub additions_fit : (a : ℕ) → a < length actions → AddFits (sum_to a (probability_at actions)) (probability_at actions a)
+  pub additions_fit : (a : ℕ) → a < length actions
+      → AddFits (sum_to a (probability_at actions)) (probability_at actions a)
 
 -- the first list of a set of chance has probabilities
 abbrev pub IsFirstList : Option ℕ → List Action → Type 0
@@ -118,17 +127,23 @@ IsFirstList (Some i) actions = Unit {0}
 
 -- a later list of a set has as many actions, with the same probabilities
 abbrev pub RepeatsActions : List Action → ℕ × SetUse → Type 0
-RepeatsActions actions x = IfSome x.1.actions (λ list. map (λ action. action.prob) list ≡ map (λ action. action.prob) actions)
+RepeatsActions actions x =
+    IfSome x.1.actions
+    (λ list. map (λ action. action.prob) list ≡ map (λ action. action.prob) actions)
 
 -- the uses of one set agree: the first has a list of actions, and later lists repeat it
 abbrev pub AgreeOnActions : List (ℕ × SetUse) → Type 0
 AgreeOnActions [] = Unit {0}
-AgreeOnActions (first ∷ later) = (actions : List Action) × (first.1.actions ≡ Some actions) × IsFirstList first.1.owner actions × All (RepeatsActions actions) later
+AgreeOnActions (first ∷ later) =
+    (actions : List Action) × (first.1.actions ≡ Some actions) × IsFirstList first.1.owner actions
+    × All (RepeatsActions actions) later
 
 -- the uses of one outcome agree: the first has payoffs, and later ones repeat them
 abbrev pub AgreeOnPayoffs : List (ℕ × OutcomeUse) → Type 0
 AgreeOnPayoffs [] = Unit {0}
-AgreeOnPayoffs (first ∷ later) = (payoffs : List ℚ) × (first.1.payoffs ≡ Some payoffs) × All (λ x. IfSome x.1.payoffs (λ list. list ≡ payoffs)) later
+AgreeOnPayoffs (first ∷ later) =
+    (payoffs : List ℚ) × (first.1.payoffs ≡ Some payoffs)
+    × All (λ x. IfSome x.1.payoffs (λ list. list ≡ payoffs)) later
 
 -- ---- the tree
 -- who chooses at a node
@@ -137,7 +152,8 @@ kind_of_use None = End
 kind_of_use (Some used) = kind_of_owner used.owner
 
 -- a node of the tree stands for a written one, where the sets and the outcomes are these
-pub record StandsFor (keys : List SetKey) (labels : List ℕ) (node : Node) (written : WrittenNode) : Type 0 where
+pub record StandsFor (keys : List SetKey) (labels : List ℕ) (node : Node)
+    (written : WrittenNode) : Type 0 where
   pub kind_is : node.kind ≡ kind_of_use written.set
   pub set_is : Names keys node.set (option_map key_of written.set)
   pub outcome_is : Names labels node.outcome (option_map (λ used. used.label) written.outcome)
@@ -145,12 +161,15 @@ pub record StandsFor (keys : List SetKey) (labels : List ℕ) (node : Node) (wri
 -- the nodes stand for the written ones, one by one
 abbrev pub StandForEach : List SetKey → List ℕ → List Node → List WrittenNode → Type 0
 StandForEach keys labels [] [] = Unit {0}
-StandForEach keys labels (node ∷ nodes) (one ∷ written) = StandsFor keys labels node one × StandForEach keys labels nodes written
+StandForEach keys labels (node ∷ nodes) (one ∷ written) =
+    StandsFor keys labels node one × StandForEach keys labels nodes written
 StandForEach keys labels _ _ = ⊥
 
--- Written nodes describe a tree, as far as it goes: its nodes hang in prefix order and leave these branches open, and its sets and
--- outcomes are those that the nodes use, each once, in the order of their first uses.
-pub record Describe (written : List WrittenNode) (t : GameTree) (free : List OpenBranch) : Type 0 where
+-- Written nodes describe a tree, as far as it goes: its nodes hang in prefix order and leave these
+-- branches open, and its sets and outcomes are those that the nodes use, each once, in the order of
+-- their first uses.
+pub record Describe (written : List WrittenNode) (t : GameTree)
+    (free : List OpenBranch) : Type 0 where
   pub keys : List SetKey
   pub labels : List ℕ
   pub keys_are : AreFirstUses (map (λ x. key_of x.1) (set_uses written)) keys
@@ -158,7 +177,8 @@ pub record Describe (written : List WrittenNode) (t : GameTree) (free : List Ope
   pub partial : IsPartialTree t free
   pub nodes_stand : StandForEach keys labels t.nodes written
   pub sets_are : t.sets ≡ map (λ key. described_set key (uses_of_set key (set_uses written))) keys
-  pub outcomes_are : t.outcomes ≡ map (λ label. described_outcome label (uses_of_outcome label (outcome_uses written))) labels
+  pub outcomes_are : t.outcomes
+      ≡ map (λ label. described_outcome label (uses_of_outcome label (outcome_uses written))) labels
   pub sets_agree : (key : SetKey) → AgreeOnActions (uses_of_set key (set_uses written))
   pub outcomes_agree : (label : ℕ) → AgreeOnPayoffs (uses_of_outcome label (outcome_uses written))
 
@@ -168,7 +188,8 @@ LiesAt t [] d = ⊥
 LiesAt t ((None, a) ∷ free) d = d ≡ 0
 LiesAt t ((Some k, a) ∷ free) d = (e : ℕ) × LiesBelowRoot t.nodes e k × (d ≡ suc e)
 
--- a limit is passed where a branch is open and a further node would be one too many, or else one edge too far below the root
+-- a limit is passed where a branch is open and a further node would be one too many, or else one
+-- edge too far below the root
 abbrev pub PassesAt : GameTree → List OpenBranch → What → Type 0
 PassesAt t free Nodes = (length t.nodes ≡ most_nodes) × (free ≢ [])
 PassesAt t free Depth = (length t.nodes < most_nodes) × LiesAt t free (suc most_depth)

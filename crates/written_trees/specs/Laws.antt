@@ -23,24 +23,31 @@ pub record IsWrittenNode (players : ℕ) (node : WrittenNode) : Type 0 where
 -- what is built is described
 abbrev pub BuiltIsDescribed : Type 0
 BuiltIsDescribed =
-    (title : List ℕ) (players : List (List ℕ)) (written : List WrittenNode) (partial : PartialTree) → length players < 2 ^ 32
+    (title : List ℕ) (players : List (List ℕ)) (written : List WrittenNode) (partial : PartialTree)
+    → length players < 2 ^ 32
     → All (IsWrittenNode (length players)) written → add_nodes root_alone written ≡ Some partial
     → Describe written (tree_so_far title players partial) (open_branches partial.branchings)
 
 -- what is described is built
-pub record IsBuilt (written : List WrittenNode) (t : GameTree) (free : List OpenBranch) : Type 0 where
+pub record IsBuilt (written : List WrittenNode) (t : GameTree)
+    (free : List OpenBranch) : Type 0 where
   pub partial : PartialTree
   pub is_built : add_nodes root_alone written ≡ Some partial
   pub tree_is : t ≡ tree_so_far t.title t.players partial
   pub free_is : free ≡ open_branches partial.branchings
 
 abbrev pub DescribedIsBuilt : Type 0
-DescribedIsBuilt = (written : List WrittenNode) (t : GameTree) (free : List OpenBranch) → Describe written t free → IsBuilt written t free
+DescribedIsBuilt = (written : List WrittenNode) (t : GameTree) (free : List OpenBranch)
+    → Describe written t free → IsBuilt written t free
 
 -- a partial tree passes the limits that a further node of the tree so far would pass
-pub record LimitsAreSeen (title : List ℕ) (players : List (List ℕ)) (partial : PartialTree) : Type 0 where
-  pub passes : (what : What) → passed partial ≡ Some what → PassesAt (tree_so_far title players partial) (open_branches partial.branchings) what
-  pub passed_so : (what : What) → PassesAt (tree_so_far title players partial) (open_branches partial.branchings) what → passed partial ≡ Some what
+pub record LimitsAreSeen (title : List ℕ) (players : List (List ℕ))
+    (partial : PartialTree) : Type 0 where
+  pub passes : (what : What) → passed partial ≡ Some what
+      → PassesAt (tree_so_far title players partial) (open_branches partial.branchings) what
+  pub passed_so : (what : What)
+      → PassesAt (tree_so_far title players partial) (open_branches partial.branchings) what
+      → passed partial ≡ Some what
 
 abbrev pub LimitsAreExact : Type 0
 LimitsAreExact =

@@ -77,14 +77,14 @@ pub turned : (n : ℕ) (f g : ℕ → ℚ) → sum_to n (λ i. f i *ℚ g i) ≡
 turned n f g = sum_to-same n _ _ (λ i h. ring rational_ring (f i ∷ g i ∷ []) (R.A :* R.B) (R.B :* R.A) refl)
 
 module _ (h X k Y : ℕ) (E F A : ℕ → ℕ → ℚ) (N : ℕ) (s t : Tableau) where
-  -- the prices of player 1 and the raw weights of player 2 are the last row's coefficients of the slacks
+  -- the prices of the first player and the raw weights of the second are the last row's coefficients of the slacks
   abbrev pub slack_price : ℕ → ℚ
   slack_price i = coefficient t (h + Y) (s.basic i)
 
   abbrev pub slack_weight : ℕ → ℚ
   slack_weight i = coefficient t (h + Y) (s.basic (h + i))
 
-  -- the prices of player 2 and the raw weights of player 1 are the values of q and x
+  -- the prices of the second player and the raw weights of the first are the values of q and x
   abbrev pub price_value : ℕ → ℚ
   price_value j = basic_solution t (s.nonbasic (X + j))
 

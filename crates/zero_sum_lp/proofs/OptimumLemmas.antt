@@ -1,5 +1,5 @@
 -- The last tableau of a program's path.
-use Rattle.std.proofs.Common.{ℕ, suc, ◌<◌, ◌≤◌, ◌≡◌, ◌≢◌, ◌+◌, ◌-◌, length, sym, ap, ap₂, ◌∙◌, subst, arith, add-one}
+use Rattle.std.proofs.Common.{ℕ, suc, ◌<◌, ◌≤◌, ◌≡◌, ◌≢◌, ◌+◌, length, sym, ap, ap₂, ◌∙◌, subst, arith, add-one}
 use Rattle.std.proofs.lemmas.List.{length-map}
 use Rattle.rational.specs.Rational.{ℚ}
 use Rattle.linear_systems.specs.Rows.{basic_solution, coefficient}
@@ -43,7 +43,7 @@ module _ (o : Program) (h : IsOptimum o) where
       ∙ basic_last (side_of o.first) (side_of o.second) h.begins.gain (constraints (side_of o.first) (side_of o.second)) (omega arith)
 
 -- ---- for the readers
-module _ (o : Program) (h : IsOptimum o) (seen : WholeTableau) (e : seen ≡ o.tableau) (objective width : ℕ) (s : HasShape o.first o.second objective width) where
+module _ (o : Program) (h : IsOptimum o) (seen : WholeTableau) (e : seen ≡ o.tableau) (objective : ℕ) (s : HasShape o.first o.second objective) where
   pub read_row : objective < length seen.basics
   read_row = subst (λ n. objective < length n.basics) (sym e) (let r = end_rows o h in let m : objective ≡ constraints (side_of o.first) (side_of o.second) = s.rows in omega arith)
 
@@ -59,14 +59,12 @@ pub few_sets : (first second : SideData) (k : ℕ) → k ≤ length first.sets �
 few_sets first second k h = let e = sets_are first in omega arith
 
 -- the number of a value
-pub second_variable : (first second : SideData) (objective width len k : ℕ) → HasShape first second objective width → len ≡ length second.sets → objective + (width - len - 1) + k + 1 ≡ suc (constraints (side_of first) (side_of second) + (sequences (side_of first) + k))
-second_variable first second objective width len k s e =
+pub second_variable : (first second : SideData) (objective before k : ℕ) → HasShape first second objective → before ≡ sequences (side_of first) → objective + before + k + 1 ≡ suc (constraints (side_of first) (side_of second) + (sequences (side_of first) + k))
+second_variable first second objective before k s e =
     let m : objective ≡ constraints (side_of first) (side_of second) = s.rows in
-    let w : width ≡ sequences (side_of first) + suc (side_of second).sets = s.columns in
-    let n = sets_are second in
     omega arith
 
-module _ (o : Program) (h : IsOptimum o) (seen : WholeTableau) (e : seen ≡ o.tableau) (objective width : ℕ) (s : HasShape o.first o.second objective width) (k : ℕ) (q : ℚ) where
+module _ (o : Program) (h : IsOptimum o) (seen : WholeTableau) (e : seen ≡ o.tableau) (objective : ℕ) (s : HasShape o.first o.second objective) (k : ℕ) (q : ℚ) where
   pub first_price_is : q ≡ coefficient (tableau seen) objective (k + 1) → q ≡ price_one (side_of o.first) (side_of o.second) (tableau o.tableau) k
   first_price_is f = f ∙ ap (λ n. coefficient (tableau n) objective (k + 1)) e ∙ ap (λ m. coefficient (tableau o.tableau) m (k + 1)) s.rows ∙ ap (coefficient (tableau o.tableau) (constraints (side_of o.first) (side_of o.second))) (add-one k)
 

@@ -4,7 +4,7 @@ use Rattle.rational.specs.Rational.{zero_ℚ, ◌≤ℚ◌}
 use Rattle.rational.proofs.Field.{not_lt_of_le}
 use Rattle.linear_systems.specs.Rows.{IsLexicographicRow}
 use Rattle.linear_systems.proofs.LexRowLemmas.{lex_row_by}
-use Rattle.zero_sum_lp.specs.Paths.{IsEnteringOf, IsEntering, IsOptimal, IsAfter}
+use Rattle.zero_sum_lp.specs.Paths.{IsEntering, IsOptimal, IsAfter}
 use Rattle.zero_sum_lp.proofs.DeterminedPathLemmas.{after_on_path, after_leaves, path_is_short}
 use Rattle.frac128.specs.declared.steps.Unfit.{Unfit}
 use Rattle.lex_tableau.specs.Rows.{WholeTableau, tableau}
@@ -61,14 +61,11 @@ module _ (first now : WholeTableau) (k : ℕ) (s : IsProgramStart first) (w : Le
   short = path_is_short (linear_program first) k (tableau now) s.program (leads_after first now k s w)
 
   -- what a scan of all columns found enters
-  pub found_enters : (m n c : ℕ) → m ≡ first.rated → n ≡ length first.nonbasics → IsEnteringOf m n (tableau now) c → IsEntering now.rated (tableau now) c
-  found_enters m n c em en e =
-      let same : m ≡ now.rated = em ∙ sym (kept first now k w).1 in
-      let all : n ≡ length now.nonbasics = en ∙ sym width_kept in
-      subst₂ (λ o k. IsEnteringOf o k (tableau now) c) same all e
+  pub found_enters : (m c : ℕ) → m ≡ first.rated → IsEntering m (tableau now) c → IsEntering now.rated (tableau now) c
+  found_enters m c em e = subst (λ o. IsEntering o (tableau now) c) (em ∙ sym (kept first now k w).1) e
 
-  pub none_optimal : (m n : ℕ) → m ≡ first.rated → n ≡ length first.nonbasics → ((j : ℕ) → j < n → zero_ℚ ≤ℚ (tableau now).cell m j) → IsOptimal now.rated (tableau now)
-  none_optimal m n em en h = λ j hj. subst (λ o. zero_ℚ ≤ℚ (tableau now).cell o j) (em ∙ sym (kept first now k w).1) (h j (subst (λ x. j < x) (sym (en ∙ sym width_kept)) hj))
+  pub none_optimal : (m : ℕ) → m ≡ first.rated → IsOptimal m (tableau now) → IsOptimal now.rated (tableau now)
+  none_optimal m em h = subst (λ o. IsOptimal o (tableau now)) (em ∙ sym (kept first now k w).1) h
 
   -- an entering column has a positive entry in a constraint
   pub some_leaves : (c : ℕ) → IsEntering now.rated (tableau now) c → ((i : ℕ) → i < now.rated → (tableau now).cell i c ≤ℚ zero_ℚ) → ⊥
@@ -79,16 +76,16 @@ module _ (first now : WholeTableau) (k : ℕ) (s : IsProgramStart first) (w : Le
 
 -- ---- for the loop
 -- what a scan of the tableau as it was read found enters
-pub read_enters : (first now seen : WholeTableau) (past pivots number m n c : ℕ) → IsProgramStart first → IsUnderWay first now past pivots number → m ≡ first.rated → n ≡ length first.nonbasics → seen ≡ now → IsEnteringOf m n (tableau seen) c → IsEntering now.rated (tableau now) c
-read_enters first now seen past pivots number m n c s u em en e f = found_enters first now u.count s u.path m n c em en (subst (λ x. IsEnteringOf m n (tableau x) c) e f)
+pub read_enters : (first now seen : WholeTableau) (past pivots number m c : ℕ) → IsProgramStart first → IsUnderWay first now past pivots number → m ≡ first.rated → seen ≡ now → IsEntering m (tableau seen) c → IsEntering now.rated (tableau now) c
+read_enters first now seen past pivots number m c s u em e f = found_enters first now u.count s u.path m c em (subst (λ x. IsEntering m (tableau x) c) e f)
 
 -- and the tableau that was read has its lexicographic row
 pub read_leaves : (now seen : WholeTableau) (c r : ℕ) → seen ≡ now → IsLexicographicRow seen.rated seen.rated (variable_at seen.starts) (tableau seen) c r → IsLexicographicRow now.rated now.rated (variable_at now.starts) (tableau now) c r
 read_leaves now seen c r e l = subst (λ x. IsLexicographicRow x.rated x.rated (variable_at x.starts) (tableau x) c r) e l
 
-pub read_end : (first now seen : WholeTableau) (past pivots number m n : ℕ) → IsProgramStart first → IsUnderWay first now past pivots number → m ≡ first.rated → n ≡ length first.nonbasics → seen ≡ now → ((j : ℕ) → j < n → zero_ℚ ≤ℚ (tableau seen).cell m j) → EndsPath first now
-read_end first now seen past pivots number m n s u em en e f =
-    record { count = u.count; path = u.path; optimal = none_optimal first now u.count s u.path m n em en (subst (λ x. (j : ℕ) → j < n → zero_ℚ ≤ℚ (tableau x).cell m j) e f) }
+pub read_end : (first now seen : WholeTableau) (past pivots number m : ℕ) → IsProgramStart first → IsUnderWay first now past pivots number → m ≡ first.rated → seen ≡ now → IsOptimal m (tableau seen) → EndsPath first now
+read_end first now seen past pivots number m s u em e f =
+    record { count = u.count; path = u.path; optimal = none_optimal first now u.count s u.path m em (subst (λ x. IsOptimal m (tableau x)) e f) }
 
 pub under_way_next : (first now new : WholeTableau) (past pivots pivots' number number' : ℕ) → IsUnderWay first now past pivots number → IsExactStep now new → pivots' ≡ pivots + 1 → number' ≡ pivot_number (suc number) → IsUnderWay first new past pivots' number'
 under_way_next first now new past pivots pivots' number number' u st e n =

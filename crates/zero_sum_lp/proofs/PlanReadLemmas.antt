@@ -1,5 +1,5 @@
 -- The raw weights as lists, and the plans made of them.
-use Rattle.std.proofs.Common.{ℕ, suc, ◌<◌, ◌≡◌, ◌+◌, ◌-◌, inl, inr, List, [], ◌∷◌, ◌++◌, Result, length, sym, ap, ap₂, ◌∙◌, subst, arith}
+use Rattle.std.proofs.Common.{ℕ, suc, ◌<◌, ◌≡◌, ◌+◌, inl, inr, List, [], ◌∷◌, ◌++◌, Result, length, sym, ap, ap₂, ◌∙◌, subst, arith}
 use Rattle.std.proofs.lemmas.List.{length_push, get_or_push, get_or_append_left}
 use Rattle.rational.specs.Rational.{ℚ, zero_ℚ}
 use Rattle.linear_systems.specs.Rows.{basic_solution, coefficient}
@@ -27,7 +27,7 @@ weights_push n x xs ys v w e q =
       ];
     })
 
-module _ (o : Program) (h : IsOptimum o) (seen : WholeTableau) (e : seen ≡ o.tableau) (objective width : ℕ) (s : HasShape o.first o.second objective width) (k : ℕ) (q : ℚ) where
+module _ (o : Program) (h : IsOptimum o) (seen : WholeTableau) (e : seen ≡ o.tableau) (objective : ℕ) (s : HasShape o.first o.second objective) (k : ℕ) (q : ℚ) where
   pub raw_one_is : q ≡ basic_solution (tableau seen) (objective + k + 1) → q ≡ raw_one (side_of o.first) (side_of o.second) (tableau o.tableau) k
   raw_one_is w =
       let m : objective ≡ constraints (side_of o.first) (side_of o.second) = s.rows in
@@ -37,9 +37,8 @@ module _ (o : Program) (h : IsOptimum o) (seen : WholeTableau) (e : seen ≡ o.t
   raw_two_is v f w = w ∙ ap (λ n. coefficient (tableau n) objective v) e ∙ ap (λ m. coefficient (tableau o.tableau) m v) s.rows ∙ ap (coefficient (tableau o.tableau) (constraints (side_of o.first) (side_of o.second))) f
 
 -- the number of a slack, and that it is not the objective's
-pub slack_variable : (first second : SideData) (objective width len k : ℕ) → HasShape first second objective width → len ≡ length first.sets → k < objective - (len + 1) → (len + 1 + k + 1 ≡ suc (suc (side_of first).sets + k)) × (len + 1 + k + 1 < suc (constraints (side_of first) (side_of second) + (sequences (side_of first) + suc (side_of second).sets)))
-slack_variable first second objective width len k s e l =
-    let m : objective ≡ constraints (side_of first) (side_of second) = s.rows in
+pub slack_variable : (first second : SideData) (len k : ℕ) → len ≡ length first.sets → k < sequences (side_of second) → (len + 1 + k + 1 ≡ suc (suc (side_of first).sets + k)) × (len + 1 + k + 1 < suc (constraints (side_of first) (side_of second) + (sequences (side_of first) + suc (side_of second).sets)))
+slack_variable first second len k e l =
     let n = sets_are first in
     (omega arith, omega arith)
 

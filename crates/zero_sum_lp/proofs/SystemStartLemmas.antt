@@ -33,8 +33,7 @@ starts_for first second s n gain p h valid =
         let a : suc (constraints (side_of first) (side_of second)) ≡ length s.basics = p.program.rows in
         omega arith
 
-pub shape_is : (first second : SideData) (x y a b : ℕ) → x ≡ sequences (side_of first) → y ≡ sequences (side_of second) → a ≡ length first.sets → b ≡ length second.sets → constraints (side_of first) (side_of second) + (sequences (side_of first) + suc (side_of second).sets) ≤ most_rows → HasShape first second (1 + a + y) (x + 1 + b)
-shape_is first second x y a b ex ey ea eb few =
+pub shape_is : (first second : SideData) (y a : ℕ) → y ≡ sequences (side_of second) → a ≡ length first.sets → constraints (side_of first) (side_of second) + (sequences (side_of first) + suc (side_of second).sets) ≤ most_rows → HasShape first second (1 + a + y)
+shape_is first second y a ey ea few =
     let f = sets_are first in
-    let s = sets_are second in
-    record { rows = omega arith; columns = omega arith; few = omega arith }
+    record { rows = omega arith; few = omega arith }

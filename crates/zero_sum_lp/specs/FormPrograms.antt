@@ -1,7 +1,7 @@
 -- The program of a sequence form in stages, and why there is none.
-use Rattle.std.specs.Prelude.{ℕ, ◌≡◌, ◌≢◌, List, [], ◌∷◌, ◌++◌, All, Ok, Err}
+use Rattle.std.specs.Prelude.{◌≡◌, ◌≢◌, List, [], ◌∷◌, ◌++◌, All, Ok, Err}
 use Rattle.answers.specs.Answers.{Answer, ◌>>=◌, ◌>>◌, only, IsSingle, refused_by}
-use Rattle.rational.specs.Rational.{ℚ, ◌+ℚ◌, ◌-ℚ◌, ◌*ℚ◌}
+use Rattle.rational.specs.Rational.{ℚ, ◌+ℚ◌, ◌*ℚ◌}
 use Rattle.frac128.specs.Steps.{step_of, Step}
 use Rattle.frac128.specs.declared.steps.Op.TheVariants.{Add, Sub, Mul}
 use Rattle.lex_tableau.specs.Rows.{WholeTableau}
@@ -34,7 +34,8 @@ leaf_sum_steps l = step_of Add l.one l.two ∷ []
 
 -- the sums of all leaves fit; or the first that does not, with its place
 abbrev pub sums_in : List Leaf → Answer LpStop (Unit {0})
-sums_in leaves = refused_by (λ stop. stops.SumRange stop.0.place stop.1) (all_fit leaf_sum_steps leaves)
+sums_in leaves =
+    refused_by (λ stop. stops.SumRange stop.0.place stop.1) (all_fit leaf_sum_steps leaves)
 
 -- two leaves whose sums differ
 abbrev pub apart_at : Leaf → Leaf → NotConstant
@@ -62,7 +63,7 @@ is_constant leaves (Ok _) = All (λ l. All (λ k. sum_at k ≡ sum_at l) leaves)
 is_constant leaves (Err stop) = AreFirstApart leaves stop
 
 -- ---- the gains
--- the gain of player 0 at a cell
+-- the gain of the first player at a cell
 abbrev pub cell_gain : ℚ → Cell → ℚ
 cell_gain least c = gain_at least c.weight c.one
 

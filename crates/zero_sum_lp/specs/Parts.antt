@@ -50,12 +50,11 @@ pub record IsOptimumOf (p o : Program) : Type 0 where
   pub second : o.second ≡ p.second
   pub path : EndsPath p.tableau o.tableau
 
--- the constraints' number, which is the objective row's, and that of columns; together they are
--- within the limit
-pub record HasShape (first second : SideData) (objective width : ℕ) : Type 0 where
+-- the constraints' number, which is the objective row's; with that of columns it is within the
+-- limit
+pub record HasShape (first second : SideData) (objective : ℕ) : Type 0 where
   pub rows : objective ≡ constraints (side_of first) (side_of second)
-  pub columns : width ≡ columns_of (side_of first) (side_of second)
-  pub few : objective + width ≤ most_rows
+  pub few : objective + columns_of (side_of first) (side_of second) ≤ most_rows
 
 -- an optimum: that of some program
 pub record IsOptimum (o : Program) : Type 0 where

@@ -1,4 +1,4 @@
--- The laws of the path, as statements. Each is proved by a function of src/lib.rt.
+-- The laws of the path, as statements. Each is proved by a function of src/laws.rt.
 use Rattle.std.specs.Prelude.{ℕ, suc, ◌<◌, ◌^◌, ◌⊎◌}
 use Rattle.linear_systems.specs.Tableau.{Tableau}
 use Rattle.linear_systems.specs.Lex.{IsLexLess}
@@ -13,8 +13,7 @@ TheObjectiveRowGrows =
     → IsPathPivot g t u
     → IsLexLess (suc g.rated) (key g.start.basic t g.rated) (key g.start.basic u g.rated)
 
--- So no basis comes twice, and the path ends: it has fewer than 2^bound steps, where all variables are
--- below the bound.
+-- So the path ends: it has fewer than 2^bound steps, where all variables are below the bound.
 abbrev pub PathsEnd : Type 0
 PathsEnd =
     (g : LinearProgram) (n : ℕ) (t : Tableau) → IsFeasibleAndBounded g → IsAfter g n t

@@ -29,8 +29,8 @@ pub record IsFeasibleAndBounded (g : LinearProgram) : Type 0 where
   pub feasible : (i : ℕ) → i < g.rated → zero_ℚ ≤ℚ g.start.right i
   pub bounded : IsUnbounded g.rated g.start → ⊥
 
--- column c is one of the first n, and of their nonbasic variables with a negative entry in row m its
--- variable has the least number
+-- column c is one of the first n, and of their nonbasic variables with a negative entry in row m
+-- its variable has the least number
 pub record IsEnteringOf (m n : ℕ) (t : Tableau) (c : ℕ) : Type 0 where
   pub column : c < n
   pub negative : t.cell m c <ℚ zero_ℚ

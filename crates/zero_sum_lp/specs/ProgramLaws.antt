@@ -1,4 +1,5 @@
--- The laws of the linear program of two players' plans. Each is proved by a function of src/lib.rt.
+-- The laws of the linear program of two players' plans. Each is proved by a function of
+-- src/laws.rt.
 use Rattle.std.specs.Prelude.{ℕ, ◌<◌}
 use Rattle.rational.specs.Rational.{ℚ, ◌+ℚ◌, zero_ℚ, ◌≤ℚ◌}
 use Rattle.linear_systems.specs.Tableau.{Tableau}

@@ -16,12 +16,12 @@ listed_gain second gains = number_at gains (sequences (side_of second))
 -- the program of two sides with listed gains
 abbrev pub listed_program : SideData → SideData → List ℚ → Tableau
 listed_program first second gains =
-    program_of (side_of first) (side_of second) (number_at gains (sequences (side_of second)))
+    program_of (side_of first) (side_of second) (listed_gain second gains)
 
 -- its rows of the second player's sequences
 abbrev pub listed_reply : SideData → SideData → List ℚ → ℕ → ℕ → ℚ
 listed_reply first second gains =
-    reply_cell (side_of first) (side_of second) (number_at gains (sequences (side_of second)))
+    reply_cell (side_of first) (side_of second) (listed_gain second gains)
 
 -- the system of the program of these sides with these gains
 pub record IsSystemFor (first second : SideData) (gain : ℕ → ℕ → ℚ)

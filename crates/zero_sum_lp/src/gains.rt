@@ -1,4 +1,4 @@
-// What player 0's payoffs exceed the least one by.
+// What the first player's payoffs exceed the least one by.
 ghost use Rattle.std.specs.Prelude.{◌≡◌, map, IfOk};
 ghost use Rattle.answers.specs.Answers.{Gives, map_ok};
 ghost use Rattle.frac128.specs.Steps.{StepsGive};

@@ -14,9 +14,6 @@
 //! A change here touches: what `lp` answers and refuses, and `lp_texts_are_solutions`.
 #![tactic(auto)]
 
-ghost use Rattle.zero_sum_lp.specs.PathLaws.{TheObjectiveRowGrows, PathsEnd, PathsGoOn, PathsAreDetermined};
-ghost use Rattle.zero_sum_lp.specs.ProgramLaws.{ProgramsAreFeasibleAndBounded, OptimaProveTheValue};
-
 mod form_program;
 mod gains;
 mod laws;
@@ -32,42 +29,13 @@ mod weights;
 
 pub use form_program::program;
 pub use laws::{
-    ends_are_answered, ends_are_single, optimal_plans_prove_the_value, optimal_plans_solve_tables,
-    optimal_plans_solve_trees, plans_are_answered, plans_are_single, programs_are_answered,
-    programs_are_of_forms, programs_are_single,
+    ends_are_answered, ends_are_single, optima_prove_the_value, optimal_plans_prove_the_value,
+    optimal_plans_solve_tables, optimal_plans_solve_trees, paths_are_determined, paths_end,
+    paths_go_on, plans_are_answered, plans_are_single, programs_are_answered,
+    programs_are_feasible_and_bounded, programs_are_of_forms, programs_are_single,
+    the_objective_row_grows,
 };
 pub use lp::Lp;
 pub use optimum::Optimum;
 pub use sequence_data::Plans;
 pub use stop::{LpStop, NotConstant, PlanStop};
-
-/// Each step makes the objective row greater.
-pub fn the_objective_row_grows()
-    ensures { TheObjectiveRowGrows }
-{}
-
-/// The path ends.
-pub fn paths_end()
-    ensures { PathsEnd }
-{}
-
-/// A tableau that is not optimal has an entering column, which has a lexicographic row.
-pub fn paths_go_on()
-    ensures { PathsGoOn }
-{}
-
-/// After each number of steps there is at most one tableau, and none after an optimal one.
-pub fn paths_are_determined()
-    ensures { PathsAreDetermined }
-{}
-
-/// The program of two players' plans is a linear program with a feasible start and a bounded
-/// objective.
-pub fn programs_are_feasible_and_bounded()
-    ensures { ProgramsAreFeasibleAndBounded }
-{}
-
-/// The optimum's prices prove the value of the plans made of its raw weights.
-pub fn optima_prove_the_value()
-    ensures { OptimaProveTheValue }
-{}

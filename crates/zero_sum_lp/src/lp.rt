@@ -27,7 +27,6 @@ pub struct Lp {
     first: Side,
     second: Side,
     objective: usize,
-    width: usize,
     work: Work,
 }
 
@@ -40,7 +39,7 @@ impl Model for Lp {
 
     ghost invariant = { λ l.
         IsProgram (record { first = l.first; second = l.second; tableau = l.work })
-        × HasShape l.first l.second l.objective l.width };
+        × HasShape l.first l.second l.objective };
 }
 
 impl Lp {
@@ -66,12 +65,10 @@ impl Lp {
     {
         let work = Work::new(alloc, system)?;
         let objective = 1 + first.sets().len() + second.sequences() as usize;
-        let width = first.sequences() as usize + 1 + second.sets().len();
         Ok(Lp {
             first,
             second,
             objective,
-            width,
             work,
         })
     }
@@ -94,10 +91,9 @@ impl Lp {
             first,
             second,
             objective,
-            width,
             mut work,
         } = self;
-        follow(&mut work, objective, width, pivots)?;
-        Ok(Optimum::new(first, second, objective, width, work))
+        follow(&mut work, objective, pivots)?;
+        Ok(Optimum::new(first, second, objective, work))
     }
 }

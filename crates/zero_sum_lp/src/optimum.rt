@@ -28,7 +28,6 @@ pub struct Optimum {
     first: Side,
     second: Side,
     objective: usize,
-    width: usize,
     work: Work,
 }
 
@@ -41,7 +40,7 @@ impl Model for Optimum {
 
     ghost invariant = { λ o.
         IsOptimum (record { first = o.first; second = o.second; tableau = o.work })
-        × HasShape o.first o.second o.objective o.width };
+        × HasShape o.first o.second o.objective };
 }
 
 // The raw weights, raised.
@@ -83,22 +82,15 @@ fn objective_entry(current: &Tableau, objective: usize, variable: u32) -> Frac
 
 impl Optimum {
     // The optimum that the end of a path is.
-    pub(crate) fn new(
-        first: Side,
-        second: Side,
-        objective: usize,
-        width: usize,
-        work: Work,
-    ) -> Optimum
+    pub(crate) fn new(first: Side, second: Side, objective: usize, work: Work) -> Optimum
         requires optimum { IsOptimum (record { first = first; second = second; tableau = work }) }
-        requires shape { HasShape first second objective width }
+        requires shape { HasShape first second objective }
         ensures { result ≡ record { first = first; second = second; tableau = work } }
     {
         Optimum {
             first,
             second,
             objective,
-            width,
             work,
         }
     }
@@ -116,7 +108,7 @@ impl Optimum {
         requires { k ≤ length self.now.second.sets }
         ensures { result ≡ second_prices self.now k }
     {
-        let before = self.objective + (self.width - self.second.sets().len() - 1);
+        let before = self.objective + self.first.sequences() as usize;
         self.work.now().value((before + k as usize + 1) as u32)
     }
 
@@ -126,7 +118,7 @@ impl Optimum {
             AreWeights (sequences (side_of self.now.first)) (first_raw self.now) raw.items) }
     {
         let mut raw = Vec::new(alloc);
-        for q in 0..self.width - self.second.sets().len() - 1 {
+        for q in 0..self.first.sequences() as usize {
             raw.push(self.work.now().value((self.objective + q + 1) as u32))?;
         }
         Ok(raw)
@@ -140,7 +132,7 @@ impl Optimum {
     {
         let mut raw = Vec::new(alloc);
         let before = self.first.sets().len() + 1;
-        for q in 0..self.objective - before {
+        for q in 0..self.second.sequences() as usize {
             raw.push(objective_entry(self.work.now(), self.objective, (before + q + 1) as u32))?;
         }
         Ok(raw)

@@ -45,13 +45,12 @@ fn next_entering(
 }
 
 // The column with a negative entry in the objective row whose variable has the least number.
-fn entering(current: &Tableau, objective: usize, width: usize) -> Option<usize>
-    requires row_in { objective < length current.now.basics }
-    requires width_is { width ≡ length current.now.nonbasics }
-    ensures { EntersFirst objective width (tableau current.now) result }
+fn entering(current: &Tableau, objective: usize) -> Option<usize>
+    requires { objective < length current.now.basics }
+    ensures { EntersFirst objective (length current.now.nonbasics) (tableau current.now) result }
 {
     let mut best = None;
-    for column in 0..width {
+    for column in 0..current.nonbasics().len() {
         best = next_entering(current, objective, column, best);
     }
     best
@@ -65,12 +64,10 @@ fn entering(current: &Tableau, objective: usize, width: usize) -> Option<usize>
 pub(crate) fn follow<L: Ledger>(
     work: &mut Work,
     objective: usize,
-    width: usize,
     pivots: &mut PivotCount<L>,
 ) -> Result<(), UnfitPivot>
     requires start { IsProgramStart work.old }
     requires objective_is { objective ≡ work.old.rated }
-    requires width_is { width ≡ length work.old.nonbasics }
     ensures end { OnOk result (EndsPath work.old work.new) }
     ensures unfit { IfErr result (IsUnfitPivot work.old) }
     ensures cost { pivots.new ≤ pivots.old + 2 ^ (linear_program work.old).bound }
@@ -80,7 +77,7 @@ pub(crate) fn follow<L: Ledger>(
         (λ stop. (k : ℕ) × (pivots.new ≡ pivots.old + k) × (stop.number ≡ pivot_number k)) }
 {
     let mut number: u64 = 1;
-    while let Some(column) = entering(work.now(), objective, width) {
+    while let Some(column) = entering(work.now(), objective) {
         let Some(row) = work.now().ratio_row(column) else {
             unreachable!();
         };

@@ -12,7 +12,7 @@ ghost use Rattle.zero_sum_lp.specs.PlanStops.{raised_in};
 
 use crate::weights::{set_weight, weight_at};
 use frac128::{Frac, Unfit};
-use sequence_data::{Side, set_at};
+use sequence_data::Side;
 
 // What the weights of a set's actions leave of the weight before the set.
 fn remaining(weights: &[Frac], before: usize, first: usize, count: usize) -> Result<Frac, Unfit>
@@ -66,7 +66,7 @@ pub(crate) fn raise(weights: &mut [Frac], side: &Side) -> Result<(), Unfit>
 {
     set_weight(weights, 0, Frac::one());
     for j in 0..side.sets().len() {
-        let set = set_at(side, j);
+        let set = side.own_set(j);
         raise_set(
             weights,
             set.before as usize,

@@ -35,9 +35,9 @@ pub enum LpStop {
     NotConstant(NotConstant),
     /// A step of the gains does not fit: the first.
     GainRange {
-        /// The sequence of player one; 0 is the empty one.
+        /// The sequence of the first player; 0 is the empty one.
         row: u32,
-        /// The sequence of player two; 0 is the empty one.
+        /// The sequence of the second player; 0 is the empty one.
         column: u32,
         /// The step.
         unfit: Unfit,

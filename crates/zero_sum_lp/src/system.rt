@@ -12,7 +12,7 @@ ghost use Rattle.sequence_data.specs.Matrices.{matrix_size};
 use answers::Memory;
 use frac128::Frac;
 use lex_tableau::{System, numbered};
-use sequence_data::{Side, set_entry};
+use sequence_data::Side;
 use std::alloc::Global;
 
 // The entry of a row of the first player's plans in a column.
@@ -22,7 +22,7 @@ fn plan_entry(first: &Side, row: usize, column: usize) -> Frac
     ensures { result ≡ plan_cell (side_of first.now) row column }
 {
     if column < first.sequences() as usize {
-        set_entry(first, row, column)
+        first.set_entry(row, column)
     } else {
         Frac::zero()
     }
@@ -41,7 +41,7 @@ fn reply_entry(first: &Side, second: &Side, gains: &[Frac], sequence: usize, col
     if column < columns {
         gains[column * second.sequences() as usize + sequence].neg()
     } else {
-        set_entry(second, column - columns, sequence)
+        second.set_entry(column - columns, sequence)
     }
 }
 

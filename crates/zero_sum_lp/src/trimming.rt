@@ -11,7 +11,7 @@ ghost use Rattle.zero_sum_lp.specs.PlanStops.{trimmed_in};
 
 use crate::weights::{set_weight, weight_at};
 use frac128::{Frac, Unfit};
-use sequence_data::{Side, set_at};
+use sequence_data::Side;
 
 // Shares the weight before a set out among its actions.
 fn trim_set(weights: &mut [Frac], before: usize, first: usize, count: usize) -> Result<(), Unfit>
@@ -51,7 +51,7 @@ pub(crate) fn trim(weights: &mut [Frac], side: &Side) -> Result<(), Unfit>
 {
     set_weight(weights, 0, Frac::one());
     for j in 0..side.sets().len() {
-        let set = set_at(side, j);
+        let set = side.own_set(j);
         trim_set(
             weights,
             set.before as usize,

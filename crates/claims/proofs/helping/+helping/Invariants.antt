@@ -23,8 +23,8 @@ decreases-in_halves g l = 5 * l.pass.now.parts - 2
 abbrev pub decreases-both_helped : goal.decreases-both_helped
 decreases-both_helped g l = 5 * (l.pass.now.parts + l.other.now.parts) - 3
 
-abbrev pub decreases-both_helped-front : goal.decreases-both_helped-front
-decreases-both_helped-front g l = 5 * l.other.now.parts + 1
+abbrev pub decreases-both_helped-helping : goal.decreases-both_helped-helping
+decreases-both_helped-helping g l = 5 * l.other.now.parts + 1
 
-abbrev pub decreases-both_helped-back : goal.decreases-both_helped-back
-decreases-both_helped-back g l = 5 * l.pass.now.parts + 1
+abbrev pub decreases-both_helped-own : goal.decreases-both_helped-own
+decreases-both_helped-own g l = 5 * l.pass.now.parts + 1

@@ -1,7 +1,6 @@
-use Rattle.std.proofs.Common.{◌+◌, ◌<◌, ◌≡◌, All, Ok, Err, length, map, refl, sym, ap, ap₂, ◌∙◌, subst, subst₂, arith}
-use Rattle.std.specs.List.{range_with_len}
+use Rattle.std.proofs.Common.{◌<◌, ◌≡◌, All, Ok, Err, length, map, refl, sym, ap, ap₂, ◌∙◌, subst, subst₂, arith}
 use Rattle.std.proofs.lemmas.List.{length-map}
-use Rattle.std.proofs.lemmas.List.FromFn.{length-map-range_with_len}
+use Rattle.std.proofs.lemmas.List.Elements.{All-map}
 use Rattle.answers.specs.Answers.{Gives, only, refused_by}
 use Rattle.answers.proofs.AnswerLemmas.{gives_exit, gives_told_exit}
 use Rattle.game_core.specs.Table.{game_of}
@@ -17,11 +16,10 @@ use Rattle.label_pairing.proofs.StopLemmas.{pairs_are}
 use Rattle.enummixed.specs.BothVertices.{both_lists_of, both_vertices_in}
 use Rattle.enummixed.specs.Pairs.{pairs_of}
 use Rattle.enummixed.specs.Told.{pairs_stop, scale_stop}
-use Rattle.enummixed.specs.Used.{all_labels, occurs, used_points, scaling_in}
+use Rattle.enummixed.specs.Used.{all_labels, occurs, used_points, scaled_used, scaling_in}
 use Rattle.enummixed.specs.declared.stop.MixedStop.TheVariants as stops
 use Rattle.enummixed.proofs.ExtremeLineLemmas.{scalable}
-use Rattle.enummixed.proofs.StageLemmas.{one-enumerable, two-enumerable, both-first, both-second, first-places-in, second-places-in, after-both, after-pairs, after-first, scale-first, scale-second, pairs-as, value, up-systems, up-both, up-pairs, up-first}
-use Rattle.enummixed.proofs.UsedPointLemmas.{used-read, scaled-read}
+use Rattle.enummixed.proofs.StageLemmas.{one-enumerable, two-enumerable, both-first, both-second, first-places-in, second-places-in, after-both, after-pairs, after-first, scale-first, scale-second, pairs-read, value, up-systems, up-both, up-pairs, up-first}
 use Rattle.enummixed.proofs.extreme.extreme_pairs.Goals as goal
 
 pub both_vertices-requires-clause-one : goal.both_vertices-requires-clause-one
@@ -50,33 +48,25 @@ returns-in_err-pairs-clause-answer g c =
     let two = c.in_ok-one.two in
     let first = vertex_list c.in_ok-first.first in
     let second = vertex_list c.in_ok-first.second in
-    let labels : c.all_labels-labels.result ≡ all_labels (variable_count one) = c.all_labels-labels.ensures ∙ ap₂ (λ a b. all_labels (length a + length b)) c.basics.ensures.value c.nonbasics.ensures.value in
     let r = c.from_residual-in_err-pairs.result in
     let stop = c.in_err-pairs.field-0.0 in
     up-both (game_of c.args.table.now) one two c.in_ok-one.ensures r pairs_of (first, second) c.in_ok-first.ensures.vertices
-    (gives_told_exit pair_stops.Memory pairs_stop (pairs_in (all_labels (variable_count one)) first.list second.list) (after-pairs first second) stop r pairs_of (pairs-as _ _ _ _ _ _ (Err stop) labels (ap marks_of c.deref.ensures.value) (ap marks_of c.deref-2.ensures.value) c.in_err-pairs.ensures) c.from_residual-in_err-pairs.ensures.1)
+    (gives_told_exit pair_stops.Memory pairs_stop (pairs_in (all_labels (variable_count one)) first.list second.list) (after-pairs first second) stop r pairs_of
+    (pairs-read one _ _ _ _ _ _ _ (Err stop) c.all_labels-labels.ensures c.basics.ensures.value c.nonbasics.ensures.value c.deref.ensures.value c.deref-2.ensures.value c.in_err-pairs.ensures) c.from_residual-in_err-pairs.ensures.1)
 
-pub first_used-requires : goal.first_used-requires
-first_used-requires g c =
+pub scaled_at-requires-clause-within : goal.scaled_at-requires-clause-within
+scaled_at-requires-clause-within g c =
     let one = c.in_ok-one.one in
-    let two = c.in_ok-one.two in
     let first = vertex_list c.in_ok-first.first in
     let second = vertex_list c.in_ok-first.second in
-    let labels : c.all_labels-labels.result ≡ all_labels (variable_count one) = c.all_labels-labels.ensures ∙ ap₂ (λ a b. all_labels (length a + length b)) c.basics.ensures.value c.nonbasics.ensures.value in
     let pairs = c.in_ok-pairs.pairs.items in
-    let all : pairs_in (all_labels (variable_count one)) first.list second.list (Ok pairs) = pairs-as _ _ _ _ _ _ (Ok pairs) labels (ap marks_of c.deref.ensures.value) (ap marks_of c.deref-2.ensures.value) c.in_ok-pairs.ensures in
-    let count : c.len.result ≡ length c.in_ok-first.first.list.items = omega (arith, c.len.ensures, c.in_ok-first.first.list.ok.0) in
-    subst₂ (λ n ps. All (λ p. p.0 < n) ps) (length-map c.in_ok-first.first.list.items mark_of ∙ sym count) (sym c.deref-3.ensures.value) (first-places-in (all_labels (variable_count one)) first.list second.list pairs (pairs_are (all_labels (variable_count one)) first.list second.list pairs all))
+    let all : pairs_in (all_labels (variable_count one)) first.list second.list (Ok pairs) = pairs-read one _ _ _ _ _ _ _ (Ok pairs) c.all_labels-labels.ensures c.basics.ensures.value c.nonbasics.ensures.value c.deref.ensures.value c.deref-2.ensures.value c.in_ok-pairs.ensures in
+    let places : c.deref-5.result.now ≡ map (λ p. p.0) pairs = c.deref-5.ensures.value ∙ c.in_ok-first_places.ensures.0 ∙ ap (map (λ p. p.0)) c.deref-3.ensures.value in
+    subst₂ (λ n ps. All (λ place. place < n) ps) (length-map c.in_ok-first.first.list.items mark_of ∙ ap length (sym c.deref-4.ensures.value)) (sym places)
+    (All-map (λ place. place < length first.list) (λ p. p.0) pairs (first-places-in (all_labels (variable_count one)) first.list second.list pairs (pairs_are (all_labels (variable_count one)) first.list second.list pairs all)))
 
-pub scaled-requires-clause-used : goal.scaled-requires-clause-used
-scaled-requires-clause-used g c =
-    let pairs = c.in_ok-pairs.pairs.items in
-    let count : c.len.result ≡ length c.in_ok-first.first.list.items = omega (arith, c.len.ensures, c.in_ok-first.first.list.ok.0) in
-    let used : c.deref-5.result.now ≡ map (occurs (map (λ p. p.0) pairs)) (range_with_len 0 (length c.in_ok-first.first.list.items)) = c.deref-5.ensures.value ∙ c.in_ok-first_used.ensures ∙ ap₂ (λ ps n. map (occurs (map (λ p. p.0) ps)) (range_with_len 0 n)) c.deref-3.ensures.value count in
-    ap length used ∙ length-map-range_with_len (occurs (map (λ p. p.0) pairs)) 0 (length c.in_ok-first.first.list.items) ∙ ap length (sym c.deref-4.ensures.value)
-
-pub scaled-requires-clause-scalable : goal.scaled-requires-clause-scalable
-scaled-requires-clause-scalable g c = λ i l.
+pub scaled_at-requires-clause-scalable : goal.scaled_at-requires-clause-scalable
+scaled_at-requires-clause-scalable g c = λ i l.
     let e = c.deref-4.ensures.value in
     subst (λ vs. IsScalable (mark_at (marks_of vs) i).point) (sym e) (scalable (variable_count c.in_ok-one.one) (system_of c.in_ok-one.one) (marks_of c.in_ok-first.first.list.items) (both-first c.in_ok-one.one c.in_ok-one.two (both_lists_of (c.in_ok-first.first, c.in_ok-first.second)) c.in_ok-first.ensures.vertices).2.list i (omega (arith, l, ap length e, length-map c.in_ok-first.first.list.items mark_of)))
 
@@ -86,38 +76,28 @@ returns-in_err-firsts-clause-answer g c =
     let two = c.in_ok-one.two in
     let first = vertex_list c.in_ok-first.first in
     let second = vertex_list c.in_ok-first.second in
-    let labels : c.all_labels-labels.result ≡ all_labels (variable_count one) = c.all_labels-labels.ensures ∙ ap₂ (λ a b. all_labels (length a + length b)) c.basics.ensures.value c.nonbasics.ensures.value in
     let pairs = c.in_ok-pairs.pairs.items in
-    let all : pairs_in (all_labels (variable_count one)) first.list second.list (Ok pairs) = pairs-as _ _ _ _ _ _ (Ok pairs) labels (ap marks_of c.deref.ensures.value) (ap marks_of c.deref-2.ensures.value) c.in_ok-pairs.ensures in
-    let count : c.len.result ≡ length c.in_ok-first.first.list.items = omega (arith, c.len.ensures, c.in_ok-first.first.list.ok.0) in
-    let used : c.deref-5.result.now ≡ map (occurs (map (λ p. p.0) pairs)) (range_with_len 0 (length c.in_ok-first.first.list.items)) = c.deref-5.ensures.value ∙ c.in_ok-first_used.ensures ∙ ap₂ (λ ps n. map (occurs (map (λ p. p.0) ps)) (range_with_len 0 n)) c.deref-3.ensures.value count in
+    let all : pairs_in (all_labels (variable_count one)) first.list second.list (Ok pairs) = pairs-read one _ _ _ _ _ _ _ (Ok pairs) c.all_labels-labels.ensures c.basics.ensures.value c.nonbasics.ensures.value c.deref.ensures.value c.deref-2.ensures.value c.in_ok-pairs.ensures in
+    let places : c.deref-5.result.now ≡ map (λ p. p.0) pairs = c.deref-5.ensures.value ∙ c.in_ok-first_places.ensures.0 ∙ ap (map (λ p. p.0)) c.deref-3.ensures.value in
     let r = c.from_residual-in_err-firsts.result in
     let stop = c.in_err-firsts.field-0.0 in
     up-pairs (game_of c.args.table.now) one two c.in_ok-one.ensures r pairs_of (first, second) pairs c.in_ok-first.ensures.vertices all
-    (gives_exit stops.Memory (scale-first first pairs) (λ _. after-first first second pairs) stop r pairs_of (subst (λ ps. Gives stops.Memory (refused_by (scale_stop 0) (scaling_in ps)) (Err stop)) (used-read c.deref-4.result.now c.in_ok-first.first.list.items c.deref-4.ensures.value (map (λ p. p.0) pairs) c.deref-5.result.now used) c.in_err-firsts.ensures.fit) c.from_residual-in_err-firsts.ensures.1)
+    (gives_exit stops.Memory (scale-first first pairs) (λ _. after-first first second pairs) stop r pairs_of (subst₂ (λ vs ps. Gives stops.Memory (refused_by (scale_stop 0) (scaling_in (used_points (marks_of vs) (occurs ps)))) (Err stop)) c.deref-4.ensures.value places c.in_err-firsts.ensures.fit) c.from_residual-in_err-firsts.ensures.1)
 
-pub second_used-requires : goal.second_used-requires
-second_used-requires g c =
+pub scaled_at-requires-2-clause-within : goal.scaled_at-requires-2-clause-within
+scaled_at-requires-2-clause-within g c =
     let one = c.in_ok-one.one in
-    let two = c.in_ok-one.two in
     let first = vertex_list c.in_ok-first.first in
     let second = vertex_list c.in_ok-first.second in
-    let labels : c.all_labels-labels.result ≡ all_labels (variable_count one) = c.all_labels-labels.ensures ∙ ap₂ (λ a b. all_labels (length a + length b)) c.basics.ensures.value c.nonbasics.ensures.value in
     let pairs = c.in_ok-pairs.pairs.items in
-    let all : pairs_in (all_labels (variable_count one)) first.list second.list (Ok pairs) = pairs-as _ _ _ _ _ _ (Ok pairs) labels (ap marks_of c.deref.ensures.value) (ap marks_of c.deref-2.ensures.value) c.in_ok-pairs.ensures in
-    let count' : c.len-2.result ≡ length c.in_ok-first.second.list.items = omega (arith, c.len-2.ensures, c.in_ok-first.second.list.ok.0) in
-    subst₂ (λ n ps. All (λ p. p.1 < n) ps) (length-map c.in_ok-first.second.list.items mark_of ∙ sym count') (sym c.deref-6.ensures.value) (second-places-in (all_labels (variable_count one)) first.list second.list pairs (pairs_are (all_labels (variable_count one)) first.list second.list pairs all))
+    let all : pairs_in (all_labels (variable_count one)) first.list second.list (Ok pairs) = pairs-read one _ _ _ _ _ _ _ (Ok pairs) c.all_labels-labels.ensures c.basics.ensures.value c.nonbasics.ensures.value c.deref.ensures.value c.deref-2.ensures.value c.in_ok-pairs.ensures in
+    let places : c.deref-7.result.now ≡ map (λ p. p.1) pairs = c.deref-7.ensures.value ∙ c.in_ok-first_places.ensures.1 ∙ ap (map (λ p. p.1)) c.deref-3.ensures.value in
+    subst₂ (λ n ps. All (λ place. place < n) ps) (length-map c.in_ok-first.second.list.items mark_of ∙ ap length (sym c.deref-6.ensures.value)) (sym places)
+    (All-map (λ place. place < length second.list) (λ p. p.1) pairs (second-places-in (all_labels (variable_count one)) first.list second.list pairs (pairs_are (all_labels (variable_count one)) first.list second.list pairs all)))
 
-pub scaled-requires-2-clause-used : goal.scaled-requires-2-clause-used
-scaled-requires-2-clause-used g c =
-    let pairs = c.in_ok-pairs.pairs.items in
-    let count' : c.len-2.result ≡ length c.in_ok-first.second.list.items = omega (arith, c.len-2.ensures, c.in_ok-first.second.list.ok.0) in
-    let used' : c.deref-8.result.now ≡ map (occurs (map (λ p. p.1) pairs)) (range_with_len 0 (length c.in_ok-first.second.list.items)) = c.deref-8.ensures.value ∙ c.in_ok-second_used.ensures ∙ ap₂ (λ ps n. map (occurs (map (λ p. p.1) ps)) (range_with_len 0 n)) c.deref-6.ensures.value count' in
-    ap length used' ∙ length-map-range_with_len (occurs (map (λ p. p.1) pairs)) 0 (length c.in_ok-first.second.list.items) ∙ ap length (sym c.deref-7.ensures.value)
-
-pub scaled-requires-2-clause-scalable : goal.scaled-requires-2-clause-scalable
-scaled-requires-2-clause-scalable g c = λ i l.
-    let e = c.deref-7.ensures.value in
+pub scaled_at-requires-2-clause-scalable : goal.scaled_at-requires-2-clause-scalable
+scaled_at-requires-2-clause-scalable g c = λ i l.
+    let e = c.deref-6.ensures.value in
     subst (λ vs. IsScalable (mark_at (marks_of vs) i).point) (sym e) (scalable (variable_count c.in_ok-one.two) (system_of c.in_ok-one.two) (marks_of c.in_ok-first.second.list.items) (both-second c.in_ok-one.one c.in_ok-one.two (both_lists_of (c.in_ok-first.first, c.in_ok-first.second)) c.in_ok-first.ensures.vertices).2.list i (omega (arith, l, ap length e, length-map c.in_ok-first.second.list.items mark_of)))
 
 pub returns-in_err-seconds-clause-answer : goal.returns-in_err-seconds-clause-answer
@@ -126,18 +106,15 @@ returns-in_err-seconds-clause-answer g c =
     let two = c.in_ok-one.two in
     let first = vertex_list c.in_ok-first.first in
     let second = vertex_list c.in_ok-first.second in
-    let labels : c.all_labels-labels.result ≡ all_labels (variable_count one) = c.all_labels-labels.ensures ∙ ap₂ (λ a b. all_labels (length a + length b)) c.basics.ensures.value c.nonbasics.ensures.value in
     let pairs = c.in_ok-pairs.pairs.items in
-    let all : pairs_in (all_labels (variable_count one)) first.list second.list (Ok pairs) = pairs-as _ _ _ _ _ _ (Ok pairs) labels (ap marks_of c.deref.ensures.value) (ap marks_of c.deref-2.ensures.value) c.in_ok-pairs.ensures in
-    let count : c.len.result ≡ length c.in_ok-first.first.list.items = omega (arith, c.len.ensures, c.in_ok-first.first.list.ok.0) in
-    let used : c.deref-5.result.now ≡ map (occurs (map (λ p. p.0) pairs)) (range_with_len 0 (length c.in_ok-first.first.list.items)) = c.deref-5.ensures.value ∙ c.in_ok-first_used.ensures ∙ ap₂ (λ ps n. map (occurs (map (λ p. p.0) ps)) (range_with_len 0 n)) c.deref-3.ensures.value count in
-    let count' : c.len-2.result ≡ length c.in_ok-first.second.list.items = omega (arith, c.len-2.ensures, c.in_ok-first.second.list.ok.0) in
-    let used' : c.deref-8.result.now ≡ map (occurs (map (λ p. p.1) pairs)) (range_with_len 0 (length c.in_ok-first.second.list.items)) = c.deref-8.ensures.value ∙ c.in_ok-second_used.ensures ∙ ap₂ (λ ps n. map (occurs (map (λ p. p.1) ps)) (range_with_len 0 n)) c.deref-6.ensures.value count' in
-    let fit : All (StepsFit scale_steps) (used_points first.list (occurs (map (λ p. p.0) pairs))) = subst (All (StepsFit scale_steps)) (used-read c.deref-4.result.now c.in_ok-first.first.list.items c.deref-4.ensures.value (map (λ p. p.0) pairs) c.deref-5.result.now used) c.in_ok-firsts.ensures.fit in
+    let all : pairs_in (all_labels (variable_count one)) first.list second.list (Ok pairs) = pairs-read one _ _ _ _ _ _ _ (Ok pairs) c.all_labels-labels.ensures c.basics.ensures.value c.nonbasics.ensures.value c.deref.ensures.value c.deref-2.ensures.value c.in_ok-pairs.ensures in
+    let places : c.deref-5.result.now ≡ map (λ p. p.0) pairs = c.deref-5.ensures.value ∙ c.in_ok-first_places.ensures.0 ∙ ap (map (λ p. p.0)) c.deref-3.ensures.value in
+    let places' : c.deref-7.result.now ≡ map (λ p. p.1) pairs = c.deref-7.ensures.value ∙ c.in_ok-first_places.ensures.1 ∙ ap (map (λ p. p.1)) c.deref-3.ensures.value in
+    let fit : All (StepsFit scale_steps) (used_points first.list (occurs (map (λ p. p.0) pairs))) = subst₂ (λ vs ps. All (StepsFit scale_steps) (used_points (marks_of vs) (occurs ps))) c.deref-4.ensures.value places c.in_ok-firsts.ensures.fit in
     let r = c.from_residual-in_err-seconds.result in
     let stop = c.in_err-seconds.field-0.0 in
     up-first (game_of c.args.table.now) one two c.in_ok-one.ensures r pairs_of (first, second) pairs c.in_ok-first.ensures.vertices all fit
-    (gives_exit stops.Memory (scale-second second pairs) (λ _. only (value first second pairs)) stop r pairs_of (subst (λ ps. Gives stops.Memory (refused_by (scale_stop 1) (scaling_in ps)) (Err stop)) (used-read c.deref-7.result.now c.in_ok-first.second.list.items c.deref-7.ensures.value (map (λ p. p.1) pairs) c.deref-8.result.now used') c.in_err-seconds.ensures.fit) c.from_residual-in_err-seconds.ensures.1)
+    (gives_exit stops.Memory (scale-second second pairs) (λ _. only (value first second pairs)) stop r pairs_of (subst₂ (λ vs ps. Gives stops.Memory (refused_by (scale_stop 1) (scaling_in (used_points (marks_of vs) (occurs ps)))) (Err stop)) c.deref-6.ensures.value places' c.in_err-seconds.ensures.fit) c.from_residual-in_err-seconds.ensures.1)
 
 pub returns-clause-answer : goal.returns-clause-answer
 returns-clause-answer g c =
@@ -145,29 +122,20 @@ returns-clause-answer g c =
     let two = c.in_ok-one.two in
     let first = vertex_list c.in_ok-first.first in
     let second = vertex_list c.in_ok-first.second in
-    let labels : c.all_labels-labels.result ≡ all_labels (variable_count one) = c.all_labels-labels.ensures ∙ ap₂ (λ a b. all_labels (length a + length b)) c.basics.ensures.value c.nonbasics.ensures.value in
     let pairs = c.in_ok-pairs.pairs.items in
-    let all : pairs_in (all_labels (variable_count one)) first.list second.list (Ok pairs) = pairs-as _ _ _ _ _ _ (Ok pairs) labels (ap marks_of c.deref.ensures.value) (ap marks_of c.deref-2.ensures.value) c.in_ok-pairs.ensures in
-    let count : c.len.result ≡ length c.in_ok-first.first.list.items = omega (arith, c.len.ensures, c.in_ok-first.first.list.ok.0) in
-    let used : c.deref-5.result.now ≡ map (occurs (map (λ p. p.0) pairs)) (range_with_len 0 (length c.in_ok-first.first.list.items)) = c.deref-5.ensures.value ∙ c.in_ok-first_used.ensures ∙ ap₂ (λ ps n. map (occurs (map (λ p. p.0) ps)) (range_with_len 0 n)) c.deref-3.ensures.value count in
-    let count' : c.len-2.result ≡ length c.in_ok-first.second.list.items = omega (arith, c.len-2.ensures, c.in_ok-first.second.list.ok.0) in
-    let used' : c.deref-8.result.now ≡ map (occurs (map (λ p. p.1) pairs)) (range_with_len 0 (length c.in_ok-first.second.list.items)) = c.deref-8.ensures.value ∙ c.in_ok-second_used.ensures ∙ ap₂ (λ ps n. map (occurs (map (λ p. p.1) ps)) (range_with_len 0 n)) c.deref-6.ensures.value count' in
-    let fit : All (StepsFit scale_steps) (used_points first.list (occurs (map (λ p. p.0) pairs))) = subst (All (StepsFit scale_steps)) (used-read c.deref-4.result.now c.in_ok-first.first.list.items c.deref-4.ensures.value (map (λ p. p.0) pairs) c.deref-5.result.now used) c.in_ok-firsts.ensures.fit in
-    let fit' : All (StepsFit scale_steps) (used_points second.list (occurs (map (λ p. p.1) pairs))) = subst (All (StepsFit scale_steps)) (used-read c.deref-7.result.now c.in_ok-first.second.list.items c.deref-7.ensures.value (map (λ p. p.1) pairs) c.deref-8.result.now used') c.in_ok-seconds.ensures.fit in
+    let all : pairs_in (all_labels (variable_count one)) first.list second.list (Ok pairs) = pairs-read one _ _ _ _ _ _ _ (Ok pairs) c.all_labels-labels.ensures c.basics.ensures.value c.nonbasics.ensures.value c.deref.ensures.value c.deref-2.ensures.value c.in_ok-pairs.ensures in
+    let places : c.deref-5.result.now ≡ map (λ p. p.0) pairs = c.deref-5.ensures.value ∙ c.in_ok-first_places.ensures.0 ∙ ap (map (λ p. p.0)) c.deref-3.ensures.value in
+    let places' : c.deref-7.result.now ≡ map (λ p. p.1) pairs = c.deref-7.ensures.value ∙ c.in_ok-first_places.ensures.1 ∙ ap (map (λ p. p.1)) c.deref-3.ensures.value in
+    let fit : All (StepsFit scale_steps) (used_points first.list (occurs (map (λ p. p.0) pairs))) = subst₂ (λ vs ps. All (StepsFit scale_steps) (used_points (marks_of vs) (occurs ps))) c.deref-4.ensures.value places c.in_ok-firsts.ensures.fit in
+    let fit' : All (StepsFit scale_steps) (used_points second.list (occurs (map (λ p. p.1) pairs))) = subst₂ (λ vs ps. All (StepsFit scale_steps) (used_points (marks_of vs) (occurs ps))) c.deref-6.ensures.value places' c.in_ok-seconds.ensures.fit in
     ((one, two), c.in_ok-one.ensures, ((first, second), c.in_ok-first.ensures.vertices, (pairs, all, (tt, fit, (tt, fit', refl)))))
 
 pub returns-clause-scaled : goal.returns-clause-scaled
 returns-clause-scaled g c =
-    let one = c.in_ok-one.one in
-    let first = vertex_list c.in_ok-first.first in
-    let second = vertex_list c.in_ok-first.second in
-    let labels : c.all_labels-labels.result ≡ all_labels (variable_count one) = c.all_labels-labels.ensures ∙ ap₂ (λ a b. all_labels (length a + length b)) c.basics.ensures.value c.nonbasics.ensures.value in
     let pairs = c.in_ok-pairs.pairs.items in
-    let count : c.len.result ≡ length c.in_ok-first.first.list.items = omega (arith, c.len.ensures, c.in_ok-first.first.list.ok.0) in
-    let used : c.deref-5.result.now ≡ map (occurs (map (λ p. p.0) pairs)) (range_with_len 0 (length c.in_ok-first.first.list.items)) = c.deref-5.ensures.value ∙ c.in_ok-first_used.ensures ∙ ap₂ (λ ps n. map (occurs (map (λ p. p.0) ps)) (range_with_len 0 n)) c.deref-3.ensures.value count in
-    let count' : c.len-2.result ≡ length c.in_ok-first.second.list.items = omega (arith, c.len-2.ensures, c.in_ok-first.second.list.ok.0) in
-    let used' : c.deref-8.result.now ≡ map (occurs (map (λ p. p.1) pairs)) (range_with_len 0 (length c.in_ok-first.second.list.items)) = c.deref-8.ensures.value ∙ c.in_ok-second_used.ensures ∙ ap₂ (λ ps n. map (occurs (map (λ p. p.1) ps)) (range_with_len 0 n)) c.deref-6.ensures.value count' in
+    let places : c.deref-5.result.now ≡ map (λ p. p.0) pairs = c.deref-5.ensures.value ∙ c.in_ok-first_places.ensures.0 ∙ ap (map (λ p. p.0)) c.deref-3.ensures.value in
+    let places' : c.deref-7.result.now ≡ map (λ p. p.1) pairs = c.deref-7.ensures.value ∙ c.in_ok-first_places.ensures.1 ∙ ap (map (λ p. p.1)) c.deref-3.ensures.value in
     record {
-      firsts = c.in_ok-firsts.ensures.scaled ∙ scaled-read c.deref-4.result.now c.in_ok-first.first.list.items c.deref-4.ensures.value (map (λ p. p.0) pairs) c.deref-5.result.now used;
-      seconds = c.in_ok-seconds.ensures.scaled ∙ scaled-read c.deref-7.result.now c.in_ok-first.second.list.items c.deref-7.ensures.value (map (λ p. p.1) pairs) c.deref-8.result.now used';
+      firsts = c.in_ok-firsts.ensures.scaled ∙ ap₂ (λ vs ps. scaled_used (marks_of vs) (occurs ps)) c.deref-4.ensures.value places;
+      seconds = c.in_ok-seconds.ensures.scaled ∙ ap₂ (λ vs ps. scaled_used (marks_of vs) (occurs ps)) c.deref-6.ensures.value places';
     }

@@ -1,18 +1,14 @@
-use Rattle.std.proofs.Common.{List, ℕ, ◌≡◌, ◌<◌, ◌∙◌, All, IsPermutation, length, map, arith, ap, sym, subst, subst₂}
-use Rattle.std.specs.Prelude.{IsSortedBy}
+use Rattle.std.proofs.Common.{List, ◌<◌, ◌∙◌, All, length, map, arith, ap, sym, subst, subst₂}
 use Rattle.std.specs.List.Sorted.{IsStrictlyIncreasing}
-use Rattle.std.proofs.lemmas.List.Sorted.{length_permutation}
-use Rattle.std.specs.Ordering.{is_lt}
 use Rattle.rational.specs.Rational.{ℚ}
 use Rattle.game_core.specs.Table.{game_of}
 use Rattle.game_core.proofs.TableCountLemmas.{strategy_count-names}
 use Rattle.kept_strategies.proofs.EliminationLemmas.{kept-all}
-use Rattle.enummixed.specs.Order.{pair_order}
 use Rattle.enummixed.specs.ExtremeText.{IsExtremeEquilibriaText}
 use Rattle.enummixed.specs.Pairs.{pairs_of}
 use Rattle.enummixed.specs.Spread.{AreSpreadPoints}
 use Rattle.enummixed.proofs.KeptLineLemmas.{two-counts, spread-text}
-use Rattle.enummixed.proofs.VertexPairLemmas.{within-weaker, written-over}
+use Rattle.enummixed.proofs.VertexPairLemmas.{within-weaker}
 use Rattle.enummixed.proofs.listing.spread_text.Goals as goal
 
 pub spread_points-requires-clause-within : goal.spread_points-requires-clause-within
@@ -33,23 +29,15 @@ pub returns : goal.returns
 returns c = λ h.
     let t = c.args.table.now in
     let k = c.args.kept.now in
-    let firsts : List (List ℚ) = map (λ v. v.items) c.deref-3.result.now in
-    let seconds : List (List ℚ) = map (λ v. v.items) c.deref-4.result.now in
-    let wide : List (List ℚ) = map (λ v. v.items) c.deref-6.result.now in
-    let wide' : List (List ℚ) = map (λ v. v.items) c.deref-7.result.now in
-    let sorted : List (ℕ × ℕ) = c.deref-5.result.now in
-    let before : c.deref_mut.result.now ≡ c.args.extreme.pairs.items = c.deref_mut.ensures.value in
-    let long : length c.sort_pairs.new.pairs ≡ length c.args.extreme.pairs.items = length_permutation _ _ c.sort_pairs.ensures.permutation ∙ ap length before in
-    let after : c.sort_pairs.new.pairs ≡ sorted = sym (c.deref-5.ensures.value ∙ written-over c.sort_pairs.new.pairs c.args.extreme.pairs.items c.args.extreme.pairs.len long (omega (arith, c.args.extreme.pairs.ok.0))) in
-    let first : map (λ v. v.items) c.deref.result.now ≡ firsts = ap (map (λ v. v.items)) (c.deref.ensures.value ∙ sym c.deref-3.ensures.value) in
-    let second : map (λ v. v.items) c.deref-2.result.now ≡ seconds = ap (map (λ v. v.items)) (c.deref-2.ensures.value ∙ sym c.deref-4.ensures.value) in
-    let permuted : IsPermutation c.args.extreme.pairs.items sorted = subst₂ IsPermutation before after c.sort_pairs.ensures.permutation in
-    let ordered : IsSortedBy (λ p q. is_lt (pair_order firsts seconds p q)) sorted = subst (IsSortedBy (λ p q. is_lt (pair_order firsts seconds p q))) after (subst₂ (λ xs ys. IsSortedBy (λ p q. is_lt (pair_order xs ys p q)) c.sort_pairs.new.pairs) first second c.in_ok-sort_pairs.ensures.sorted) in
+    let firsts : List (List ℚ) = map (λ v. v.items) c.as_slice-firsts.result.now in
+    let seconds : List (List ℚ) = map (λ v. v.items) c.as_slice-seconds.result.now in
+    let wide : List (List ℚ) = map (λ v. v.items) c.deref.result.now in
+    let wide' : List (List ℚ) = map (λ v. v.items) c.deref-2.result.now in
     let m = length c.strategies.result.now in
     let n = length c.strategies-2.result.now in
-    let spread : AreSpreadPoints m k.first firsts wide = subst₂ (λ places points. AreSpreadPoints m places firsts (map (λ v. v.items) points)) c.first.ensures (sym c.deref-6.ensures.value) (c.in_ok-wide_firsts.ensures {u = tt}) in
-    let spread' : AreSpreadPoints n k.second seconds wide' = subst₂ (λ places points. AreSpreadPoints n places seconds (map (λ v. v.items) points)) c.second.ensures (sym c.deref-7.ensures.value) (c.in_ok-wide_seconds.ensures {u = tt}) in
+    let spread : AreSpreadPoints m k.first firsts wide = subst₂ (λ places points. AreSpreadPoints m places firsts (map (λ v. v.items) points)) c.first.ensures (sym c.deref.ensures.value) (c.in_ok-wide_firsts.ensures {u = tt}) in
+    let spread' : AreSpreadPoints n k.second seconds wide' = subst₂ (λ places points. AreSpreadPoints n places seconds (map (λ v. v.items) points)) c.second.ensures (sym c.deref-2.ensures.value) (c.in_ok-wide_seconds.ensures {u = tt}) in
     let counts = two-counts t k c.requires.kept c.strategies.result.now c.strategies-2.result.now c.strategies.ensures.strategies c.strategies-2.ensures.strategies in
-    within-weaker _ (IsExtremeEquilibriaText (game_of t)) (λ text e. subst (IsExtremeEquilibriaText (game_of t)) (sym e)
-    (spread-text (game_of t) (game_of k.table) k.first k.second m n counts c.requires.kept.are_kept c.requires.kept.same_cells firsts seconds wide wide' spread spread' (pairs_of c.args.extreme) h sorted
-    (ap (map (λ v. v.items)) c.deref-3.ensures.value ∙ c.requires.scaled.firsts) (ap (map (λ v. v.items)) c.deref-4.ensures.value ∙ c.requires.scaled.seconds) permuted ordered)) _ c.write_lines.ensures
+    within-weaker _ (IsExtremeEquilibriaText (game_of t)) (λ text r. subst (IsExtremeEquilibriaText (game_of t)) (sym r.is_text)
+    (spread-text (game_of t) (game_of k.table) k.first k.second m n counts c.requires.kept.are_kept c.requires.kept.same_cells firsts seconds wide wide' spread spread' (pairs_of c.args.extreme) h r.sorted
+    (ap (map (λ v. v.items)) c.as_slice-firsts.ensures.value ∙ c.requires.scaled.firsts) (ap (map (λ v. v.items)) c.as_slice-seconds.ensures.value ∙ c.requires.scaled.seconds) r.permutation r.in_order)) _ c.text_in_order.ensures

@@ -12,14 +12,14 @@ pub returns-in-Err : goal.returns-in-Err
 returns-in-Err c =
     front_stop c.args.tokens.now c.in-Err.stopped c.stop.result (rw c.list.ensures.list at c.in-Err.ensures) c.stop.ensures
 
-pub profile_count-requires-clause-some : goal.profile_count-requires-clause-some
-profile_count-requires-clause-some c =
+pub profile_count_within_limit-requires-clause-some : goal.profile_count_within_limit-requires-clause-some
+profile_count_within_limit-requires-clause-some c =
     let v = c.in-Ok.read.0.players in
     let some = front_some (bare c.list.result.now) (front_of c.in-Ok.read.0, bare c.in-Ok.read.1.now) (front_value _ _ c.in-Ok.ensures) in
     omega (arith, some.0, c.len-players.ensures, v.ok.0)
 
-pub profile_count-requires-clause-strategies : goal.profile_count-requires-clause-strategies
-profile_count-requires-clause-strategies c = (front_some (bare c.list.result.now) (front_of c.in-Ok.read.0, bare c.in-Ok.read.1.now) (front_value _ _ c.in-Ok.ensures)).1
+pub profile_count_within_limit-requires-clause-strategies : goal.profile_count_within_limit-requires-clause-strategies
+profile_count_within_limit-requires-clause-strategies c = (front_some (bare c.list.result.now) (front_of c.in-Ok.read.0, bare c.in-Ok.read.1.now) (front_value _ _ c.in-Ok.ensures)).1
 
 pub returns-in_default : goal.returns-in_default
 returns-in_default c =

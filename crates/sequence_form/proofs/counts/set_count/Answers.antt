@@ -1,4 +1,4 @@
-use Rattle.std.proofs.Common.{◌≡◌, ◌∙◌, ap, length, arith}
+use Rattle.std.proofs.Common.{ap, length, arith}
 use Rattle.game_core.specs.TreeGame.{game_of_tree}
 use Rattle.game_theory.proofs.IndexLemmas.{numbers_with-length}
 use Rattle.sequence_form.proofs.counts.set_count.Goals as goal

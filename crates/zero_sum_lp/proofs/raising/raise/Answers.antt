@@ -6,7 +6,7 @@ use Rattle.rational.specs.Sum.{entry_at}
 use Rattle.zero_sum_lp.proofs.PlanListLemmas.{IsSetOf, set_read, set_in, raise_begins, raise_ends, raise_next, raise_stops}
 use Rattle.zero_sum_lp.proofs.OptimumLemmas.{sets_are}
 use Rattle.zero_sum_lp.proofs.raising.raise.Goals as goal
-use Rattle.zero_sum_lp.proofs.raising.raise.Goals.{After-set_at-set}
+use Rattle.zero_sum_lp.proofs.raising.raise.Goals.{After-own_set-set}
 
 pub loop-j-init : goal.loop-j-init
 loop-j-init c =
@@ -16,29 +16,29 @@ loop-j-init c =
     }
 
 -- the set that was read
-read : (c : After-set_at-set) → IsSetOf (side_of c.args.side.now) c.loop-j.j c.set_at-set.result.before c.set_at-set.result.first c.set_at-set.result.count
+read : (c : After-own_set-set) → IsSetOf (side_of c.args.side.now) c.loop-j.j c.own_set-set.result.before c.own_set-set.result.first c.own_set-set.result.count
 read c =
-    set_read c.args.side.now c.loop-j.j c.set_at-set.result.before c.set_at-set.result.first c.set_at-set.result.count (subst (λ (xs : List SetRow). c.loop-j.j < length xs) c.sets-j-end.ensures c.loop-j-test.true) c.set_at-set.ensures.before c.set_at-set.ensures.first c.set_at-set.ensures.count
+    set_read c.args.side.now c.loop-j.j c.own_set-set.result.before c.own_set-set.result.first c.own_set-set.result.count (subst (λ (xs : List SetRow). c.loop-j.j < length xs) c.sets-j-end.ensures c.loop-j-test.true) c.own_set-set.ensures.before c.own_set-set.ensures.first c.own_set-set.ensures.count
 
 pub raise_set-requires : goal.raise_set-requires
 raise_set-requires c =
-    let a = (goal.at.raise_set-requires c).After-set_at-set in
-    let inside = set_in (side_of c.args.side.now) c.requires.side.ordered c.loop-j.j c.set_at-set.result.before c.set_at-set.result.first c.set_at-set.result.count (length c.loop-j.weights) (read a) (c.loop-j.invariant.shape ∙ c.requires.shape) in
+    let a = (goal.at.raise_set-requires c).After-own_set-set in
+    let inside = set_in (side_of c.args.side.now) c.requires.side.ordered c.loop-j.j c.own_set-set.result.before c.own_set-set.result.first c.own_set-set.result.count (length c.loop-j.weights) (read a) (c.loop-j.invariant.shape ∙ c.requires.shape) in
     record { before_in = inside.0; some_action = inside.1.0; actions_in = inside.1.1 }
 
 pub loop-j-preserved : goal.loop-j-preserved
 loop-j-preserved c =
-    let a = (goal.at.loop-j-preserved c).After-set_at-set in
+    let a = (goal.at.loop-j-preserved c).After-own_set-set in
     record {
       shape = c.raise_set.ensures.length ∙ c.loop-j.invariant.shape;
-      raised = raise_next (side_of c.args.side.now) c.requires.side.ordered c.loop-j.j c.set_at-set.result.before c.set_at-set.result.first c.set_at-set.result.count (entry_at c.args.weights.now) (entry_at c.loop-j.weights) (entry_at c.raise_set.new.weights) (read a) c.loop-j.invariant.raised (record { first_action = c.in_ok-raise_set.ensures.raised; others = c.raise_set.ensures.others; fits = c.in_ok-raise_set.ensures.fits });
+      raised = raise_next (side_of c.args.side.now) c.requires.side.ordered c.loop-j.j c.own_set-set.result.before c.own_set-set.result.first c.own_set-set.result.count (entry_at c.args.weights.now) (entry_at c.loop-j.weights) (entry_at c.raise_set.new.weights) (read a) c.loop-j.invariant.raised (record { first_action = c.in_ok-raise_set.ensures.raised; others = c.raise_set.ensures.others; fits = c.in_ok-raise_set.ensures.fits });
     }
 
 pub returns-in_err-raise_set-clause-stage : goal.returns-in_err-raise_set-clause-stage
 returns-in_err-raise_set-clause-stage c =
-    let a = (goal.at.returns-in_err-raise_set-clause-stage c).After-set_at-set in
+    let a = (goal.at.returns-in_err-raise_set-clause-stage c).After-own_set-set in
     let p = err_from_is_err_and c.from_residual.result c.from_residual.ensures.1 in
-    rw (p.1, p.2) (raise_stops (side_of c.args.side.now) c.requires.side.ordered c.loop-j.j c.set_at-set.result.before c.set_at-set.result.first c.set_at-set.result.count (entry_at c.args.weights.now) (entry_at c.loop-j.weights) c.in_err-raise_set.field-0.0 (read a) c.loop-j.invariant.raised c.in_err-raise_set.ensures.unfit)
+    rw (p.1, p.2) (raise_stops (side_of c.args.side.now) c.requires.side.ordered c.loop-j.j c.own_set-set.result.before c.own_set-set.result.first c.own_set-set.result.count (entry_at c.args.weights.now) (entry_at c.loop-j.weights) c.in_err-raise_set.field-0.0 (read a) c.loop-j.invariant.raised c.in_err-raise_set.ensures.unfit)
 
 pub returns-clause-stage : goal.returns-clause-stage
 returns-clause-stage c =

@@ -1,9 +1,9 @@
-use Rattle.std.proofs.Common.{◌≡◌, suc, None, Some, length, length-append, [], sym, ap, ◌∙◌, subst, arith}
+use Rattle.std.proofs.Common.{◌≡◌, ◌≢◌, suc, None, Some, length, length-append, [], sym, ap, ◌∙◌, subst, arith}
 use Rattle.written_trees.specs.Building.{passed}
 use Rattle.efg_reader.specs.PartialCodes.{PartialNodes}
 use Rattle.efg_reader.specs.States.{branchings_of, nodes_of, tree_of}
 use Rattle.tree_grammar.specs.TreeParsing.{grown}
-use Rattle.efg_reader.proofs.OpenBranchLemmas.{near_after, few_next, grown_is, room_for}
+use Rattle.efg_reader.proofs.OpenBranchLemmas.{near_after, few_next, grown_is, room_for, some_taken}
 use Rattle.efg_reader.proofs.builder.Nodes.add.Goals as goal
 
 pub take_branch-requires : goal.take_branch-requires
@@ -11,8 +11,11 @@ take_branch-requires c =
     let kept = nodes_of c.self.inside.list.items c.self.inside.branchings.items in
     record { next = few_next (tree_of kept [] []) c.self.inside.branchings.items (subst (λ (nodes : PartialNodes). passed (tree_of nodes [] []) ≡ None) (sym c.self.view_is) c.requires.room) c.self.invariant.near }
 
-pub invariant_of-result-2 : goal.invariant_of-result-2
-invariant_of-result-2 c =
+pub unreachable-requires : goal.unreachable-requires
+unreachable-requires c = some_taken (branchings_of c.self.inside.branchings.items) _ (subst (λ (nodes : PartialNodes). nodes.branchings ≢ []) (sym c.self.view_is) c.requires.free) c.in_default.ensures
+
+pub invariant_of-result : goal.invariant_of-result
+invariant_of-result c =
     let kept = nodes_of c.self.inside.list.items c.self.inside.branchings.items in
     let longer : length c.push.new.self.items ≡ suc (length c.self.inside.list.items) = ap length c.in_ok-push.ensures.items ∙ length-append c.self.inside.list.items _ ∙ omega arith in
     let room : passed (tree_of kept [] []) ≡ None = subst (λ (nodes : PartialNodes). passed (tree_of nodes [] []) ≡ None) (sym c.self.view_is) c.requires.room in

@@ -5,7 +5,7 @@ use Rattle.pure_payoffs.specs.Choices.{AreActions, AreChoices, AreReduced, chose
 use Rattle.pure_payoffs.specs.Plays.{game_of}
 use Rattle.pure_payoffs.proofs.PlaceLemmas.{owner-plays, owner-strategies, strategy-within, place-within, completed-read, strategy-read}
 use Rattle.pure_payoffs.proofs.payoff.Play.action_at.Goals as goal
-use Rattle.pure_payoffs.proofs.payoff.Play.action_at.Goals.{After-index-strategies-owner, After-index-strategy, In-Actions, In-Reduced}
+use Rattle.pure_payoffs.proofs.payoff.Play.action_at.Goals.{After-index-strategies-owner, After-index-strategy, In-Reduced}
 
 -- ---- a profile of reduced strategies
 -- the players' strategies

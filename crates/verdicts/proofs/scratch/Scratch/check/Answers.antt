@@ -5,7 +5,7 @@ use Rattle.game_theory.specs.Behaviour.{payoff}
 use Rattle.best_replies.specs.Replies.{reply_value}
 use Rattle.frac128.specs.Steps.{StepFits, IsFirstUnfit}
 use Rattle.verdicts.specs.TreeReplies.{AreChosen}
-use Rattle.verdicts.specs.TreeSteps.{player_steps}
+use Rattle.verdicts.specs.TreeSteps.{tree_player_steps}
 use Rattle.game_core.specs.TreeGame.{game_of_tree}
 use Rattle.game_theory.specs.Children.{AreChildren}
 use Rattle.behaviour_profile.specs.EntryStarts.{AreStarts}
@@ -31,5 +31,5 @@ returns-clause-gives c = λ b choice is ascend best.
     let starts = subst (AreStarts t) (sym c.as_slice-2.ensures.value) c.requires.scratch.starts_are in
     let gives = c.check_player.ensures b choice (starts-read t _ c.args.entries.now b c.stands_for_game_tree.ensures.game starts is) ascend best in
     subst (λ xs. MatchResult c.check_player.result
-    (λ pays. (pays.payoff ≡ payoff t b c.args.player) × (pays.best ≡ reply_value t b c.args.player choice 0) × All StepFits (player_steps t b c.args.player choice) × AreChosen t c.args.player choice xs)
-    (IsFirstUnfit (player_steps t b c.args.player choice))) (let long : c.args.self.now.choices.len ≡ length c.check_player.new.choices = omega (arith, c.args.self.now.choices.ok.0) in rw long (sym (take-append_seam _ _))) gives
+    (λ pays. (pays.payoff ≡ payoff t b c.args.player) × (pays.best ≡ reply_value t b c.args.player choice 0) × All StepFits (tree_player_steps t b c.args.player choice) × AreChosen t c.args.player choice xs)
+    (IsFirstUnfit (tree_player_steps t b c.args.player choice))) (let long : c.args.self.now.choices.len ≡ length c.check_player.new.choices = omega (arith, c.args.self.now.choices.ok.0) in rw long (sym (take-append_seam _ _))) gives

@@ -4,7 +4,7 @@ use Rattle.std.proofs.lemmas.List.Elements.{All-nil}
 use Rattle.std.proofs.lemmas.Result.{err_from_is_err_and}
 use Rattle.game_core.proofs.TableCountLemmas.{profile_count-table}
 use Rattle.frac128.specs.Steps.{StepFits, IsFirstUnfit}
-use Rattle.verdicts.specs.TableReplies.{game_at, mixed_at}
+use Rattle.verdicts.specs.TableReplies.{table_game_at, mixed_at}
 use Rattle.verdicts.specs.TableChecks.{steps_at}
 use Rattle.best_replies.specs.Strategies.{value_below}
 use Rattle.verdicts.proofs.TableBlockLemmas.{profile-fits, profile-value, sum-unfit, weight-unfit}
@@ -19,13 +19,13 @@ loop-profile-init c =
     let none : c.args.first - c.args.first ≡ 0 = omega arith in
     record {
       value = c.requires.so_far;
-      fit = subst (λ n. All StepFits (flat_map (steps_at (game_at c.args.self.now) (mixed_at c.args.self.now) c.args.self.now.player c.args.strategy) (range_with_len c.args.first n))) (sym none) (All-nil StepFits);
+      fit = subst (λ n. All StepFits (flat_map (steps_at (table_game_at c.args.self.now) (mixed_at c.args.self.now) c.args.self.now.player c.args.strategy) (range_with_len c.args.first n))) (sym none) (All-nil StepFits);
     }
 
 pub returns-in_err-weight : goal.returns-in_err-weight
 returns-in_err-weight c =
     let m = mixed_at c.args.self.now in
-    let g = game_at c.args.self.now in
+    let g = table_game_at c.args.self.now in
     let k : ℕ = c.loop-profile.profile in
     let f = steps_at g m c.args.self.now.player c.args.strategy in
     let at : c.args.first + (k - c.args.first) ≡ k = omega (arith, c.loop-profile.auto.profile) in
@@ -36,7 +36,7 @@ returns-in_err-weight c =
 pub returns-in_err-value : goal.returns-in_err-value
 returns-in_err-value c =
     let m = mixed_at c.args.self.now in
-    let g = game_at c.args.self.now in
+    let g = table_game_at c.args.self.now in
     let k : ℕ = c.loop-profile.profile in
     let f = steps_at g m c.args.self.now.player c.args.strategy in
     let at : c.args.first + (k - c.args.first) ≡ k = omega (arith, c.loop-profile.auto.profile) in
@@ -49,7 +49,7 @@ returns-in_err-value c =
 pub loop-profile-preserved : goal.loop-profile-preserved
 loop-profile-preserved c =
     let m = mixed_at c.args.self.now in
-    let g = game_at c.args.self.now in
+    let g = table_game_at c.args.self.now in
     let k : ℕ = c.loop-profile.profile in
     let f = steps_at g m c.args.self.now.player c.args.strategy in
     let at : c.args.first + (k - c.args.first) ≡ k = omega (arith, c.loop-profile.auto.profile) in
@@ -67,7 +67,7 @@ loop-profile-preserved c =
 pub returns : goal.returns
 returns c =
     let m = mixed_at c.args.self.now in
-    let g = game_at c.args.self.now in
+    let g = table_game_at c.args.self.now in
     let f = steps_at g m c.args.self.now.player c.args.strategy in
     let end : c.loop-profile.profile ≡ c.args.first + c.args.count = omega (arith, c.loop-profile-test.false, c.loop-profile.auto.profile-end) in
     let all : c.loop-profile.profile - c.args.first ≡ c.args.count = omega (arith, end) in

@@ -7,13 +7,13 @@ use Rattle.rational.proofs.Field.{le_or_lt, le_trans}
 use Rattle.game_theory.specs.Mixed.{payoff as payoff_of}
 use Rattle.frac128.specs.Steps.{StepFits}
 use Rattle.frac128.proofs.StepRunLemmas.{first_unfit-following}
-use Rattle.verdicts.specs.TableReplies.{game_at, mixed_at}
+use Rattle.verdicts.specs.TableReplies.{table_game_at, mixed_at}
 use Rattle.verdicts.specs.TableChecks.{payoff_steps, value_steps}
 use Rattle.verdicts.proofs.tables.TableReplies.better_reply.Goals as goal
 
 pub returns-in_err-payoff-clause-unfit : goal.returns-in_err-payoff-clause-unfit
 returns-in_err-payoff-clause-unfit c =
-    let g = game_at c.args.self.now in
+    let g = table_game_at c.args.self.now in
     let m = mixed_at c.args.self.now in
     let p = err_from_is_err_and c.from_residual-in_err-payoff.result c.from_residual-in_err-payoff.ensures.1 in
     let gives = rw c.in_err-payoff.was at c.in_ok-best.ensures.payoff in
@@ -21,7 +21,7 @@ returns-in_err-payoff-clause-unfit c =
 
 pub returns-then-is_less-clause-found : goal.returns-then-is_less-clause-found
 returns-then-is_less-clause-found c =
-    let g = game_at c.args.self.now in
+    let g = table_game_at c.args.self.now in
     let m = mixed_at c.args.self.now in
     let gives = rw c.in_ok-payoff.was at c.in_ok-best.ensures.payoff in
     record {
@@ -34,7 +34,7 @@ returns-then-is_less-clause-found c =
 
 pub returns-else-is_less-clause-found : goal.returns-else-is_less-clause-found
 returns-else-is_less-clause-found c =
-    let g = game_at c.args.self.now in
+    let g = table_game_at c.args.self.now in
     let m = mixed_at c.args.self.now in
     let gives = rw c.in_ok-payoff.was at c.in_ok-best.ensures.payoff in
     record {

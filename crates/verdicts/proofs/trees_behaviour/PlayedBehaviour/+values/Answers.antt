@@ -3,7 +3,7 @@ use Rattle.std.proofs.lemmas.Result.{err_from_is_err_and}
 use Rattle.pure_payoffs.proofs.BranchStepLemmas.{skipped-gives, child-refused, product-refused, product-added, branch-more, branch-refused}
 use Rattle.pure_payoffs.proofs.PlaceLemmas.{child-found}
 use Rattle.verdicts.specs.TreeBehaviours.{game_of}
-use Rattle.verdicts.proofs.TreeNowStepLemmas.{now-end, now-refused, now-added}
+use Rattle.verdicts.proofs.TreeBehaviourStepLemmas.{behaviour-end, behaviour-refused, behaviour-added}
 use Rattle.verdicts.proofs.trees_behaviour.PlayedBehaviour.+values.Goals as goal
 
 pub with_branch-returns-then-is_zero : goal.with_branch-returns-then-is_zero
@@ -28,15 +28,15 @@ with_branch-returns t c = λ b reads.
 pub value-returns-in_err-value_after-in-Some : goal.value-returns-in_err-value_after-in-Some
 value-returns-in_err-value_after-in-Some t c = λ b reads.
     let p = err_from_is_err_and c.from_residual.result c.from_residual.ensures.1 in
-    rw (p.1, p.2) (now-refused _ b c.args.player c.requires.played.tree c.args.node c.requires.node _ (sym c.set_at.ensures ∙ c.in-Some.is) _ (c.in_err-value_after-in-Some.ensures b reads))
+    rw (p.1, p.2) (behaviour-refused _ b c.args.player c.requires.played.tree c.args.node c.requires.node _ (sym c.set_at.ensures ∙ c.in-Some.is) _ (c.in_err-value_after-in-Some.ensures b reads))
 
 pub value-returns-in_ok-value_after-in-Some : goal.value-returns-in_ok-value_after-in-Some
 value-returns-in_ok-value_after-in-Some t c = λ b reads.
     let following = c.in_ok-value_after-in-Some.ensures b reads in
-    now-added _ b c.args.player c.requires.played.tree c.args.node c.requires.node _ (sym c.set_at.ensures ∙ c.in-Some.is) _ _ _ c.pays-pays.ensures following.0 following.1 c.add.ensures.value c.add.ensures.fits c.add.ensures.step c.add.ensures.unfit
+    behaviour-added _ b c.args.player c.requires.played.tree c.args.node c.requires.node _ (sym c.set_at.ensures ∙ c.in-Some.is) _ _ _ c.pays-pays.ensures following.0 following.1 c.add.ensures.value c.add.ensures.fits c.add.ensures.step c.add.ensures.unfit
 
 pub value-returns-in-None : goal.value-returns-in-None
-value-returns-in-None t c = λ b reads. now-end _ b c.args.player c.requires.played.tree c.args.node c.requires.node _ (sym c.set_at.ensures ∙ c.in-None.is) c.pays-pays.ensures
+value-returns-in-None t c = λ b reads. behaviour-end _ b c.args.player c.requires.played.tree c.args.node c.requires.node _ (sym c.set_at.ensures ∙ c.in-None.is) c.pays-pays.ensures
 
 pub value_after-with_branch-requires : goal.value_after-with_branch-requires
 value_after-with_branch-requires t c =

@@ -6,7 +6,7 @@ use Rattle.game_theory.specs.Behaviour.{Behaviour, action_probability, value}
 use Rattle.frac128.specs.Steps.{StepFits}
 use Rattle.pure_payoffs.specs.Steps.{chance_steps}
 use Rattle.verdicts.specs.TreeBehaviours.{Reads, game_of}
-use Rattle.verdicts.specs.TreeSteps.{now_steps_at}
+use Rattle.verdicts.specs.TreeSteps.{behaviour_steps_at}
 use Rattle.verdicts.proofs.trees_behaviour.PlayedBehaviour.+values.Given as goal
 
 -- three times the number of nodes from this one on, and more for each call at the node
@@ -24,4 +24,4 @@ abbrev pub invariant-value_after-loop-action : goal.invariant-value_after-loop-a
 invariant-value_after-loop-action l = (b : Behaviour) → Reads l.self b →
     let t = game_of l.self in
     (l.sum ≡ sum_to l.action (λ a. action_probability t b l.set a *ℚ value t b l.player (child t l.node a)))
-    × All StepFits (chance_steps l.action (action_probability t b l.set) (λ a. value t b l.player (child t l.node a)) (λ a. now_steps_at t b l.player (child t l.node a)))
+    × All StepFits (chance_steps l.action (action_probability t b l.set) (λ a. value t b l.player (child t l.node a)) (λ a. behaviour_steps_at t b l.player (child t l.node a)))

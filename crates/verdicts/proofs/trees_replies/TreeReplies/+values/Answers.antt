@@ -4,7 +4,7 @@ use Rattle.std.proofs.lemmas.Result.{err_from_is_err_and}
 use Rattle.rational.specs.Rational.{zero_ℚ}
 use Rattle.game_theory.proofs.OwnSetLemmas.{is_own-told}
 use Rattle.pure_payoffs.proofs.PlaceLemmas.{child-found}
-use Rattle.verdicts.specs.TreeReplies.{game_at}
+use Rattle.verdicts.specs.TreeReplies.{tree_game_at}
 use Rattle.verdicts.proofs.TreeReplyStepLemmas.{own-gives, other-gives, reply-after_refused, reply-product_refused, reply-added}
 use Rattle.verdicts.proofs.TreeReplyPartLemmas.{own_sets-child, chosen-within, chosen-known}
 use Rattle.frac128.proofs.SumStepLemmas.{sum-more, number-refused, addition-refused}
@@ -12,13 +12,13 @@ use Rattle.verdicts.proofs.trees_replies.TreeReplies.+values.Goals as goal
 
 pub children_sum-value-requires : goal.children_sum-value-requires
 children_sum-value-requires t c =
-    let below : c.loop-action.action < (game_at c.args.self.now).actions c.args.set = omega (arith, c.action_count-action-end.ensures) in
+    let below : c.loop-action.action < (tree_game_at c.args.self.now).actions c.args.set = omega (arith, c.action_count-action-end.ensures) in
     let found = child-found (λ v. v.items) _ c.args.self.now.children.now c.args.node c.args.set c.loop-action.action c.index-self-node.result c.index.result.now c.requires.replies.tree c.requires.replies.children_are c.requires.node c.requires.set below c.index.ensures in
     (omega (arith, found.1), (c.requires.replies, (c.requires.choices, (c.requires.values, found.2))))
 
 pub children_sum-returns-in_err-value : goal.children_sum-returns-in_err-value
 children_sum-returns-in_err-value t c = λ b choice first decided from.
-    let below : c.loop-action.action < (game_at c.args.self.now).actions c.args.set = omega (arith, c.action_count-action-end.ensures) in
+    let below : c.loop-action.action < (tree_game_at c.args.self.now).actions c.args.set = omega (arith, c.action_count-action-end.ensures) in
     let found = child-found (λ v. v.items) _ c.args.self.now.children.now c.args.node c.args.set c.loop-action.action c.index-self-node.result c.index.result.now c.requires.replies.tree c.requires.replies.children_are c.requires.node c.requires.set below c.index.ensures in
     let p = err_from_is_err_and c.from_residual.result c.from_residual.ensures.1 in
     let before = c.loop-action.invariant b choice first decided from in
@@ -27,7 +27,7 @@ children_sum-returns-in_err-value t c = λ b choice first decided from.
 
 pub children_sum-returns-in_err-sum : goal.children_sum-returns-in_err-sum
 children_sum-returns-in_err-sum t c = λ b choice first decided from.
-    let below : c.loop-action.action < (game_at c.args.self.now).actions c.args.set = omega (arith, c.action_count-action-end.ensures) in
+    let below : c.loop-action.action < (tree_game_at c.args.self.now).actions c.args.set = omega (arith, c.action_count-action-end.ensures) in
     let found = child-found (λ v. v.items) _ c.args.self.now.children.now c.args.node c.args.set c.loop-action.action c.index-self-node.result c.index.result.now c.requires.replies.tree c.requires.replies.children_are c.requires.node c.requires.set below c.index.ensures in
     let p = err_from_is_err_and c.from_residual-in_err-sum.result c.from_residual-in_err-sum.ensures.1 in
     let before = c.loop-action.invariant b choice first decided from in
@@ -37,7 +37,7 @@ children_sum-returns-in_err-sum t c = λ b choice first decided from.
 
 pub children_sum-loop-action-preserved : goal.children_sum-loop-action-preserved
 children_sum-loop-action-preserved t c = λ b choice first decided from.
-    let below : c.loop-action.action < (game_at c.args.self.now).actions c.args.set = omega (arith, c.action_count-action-end.ensures) in
+    let below : c.loop-action.action < (tree_game_at c.args.self.now).actions c.args.set = omega (arith, c.action_count-action-end.ensures) in
     let found = child-found (λ v. v.items) _ c.args.self.now.children.now c.args.node c.args.set c.loop-action.action c.index-self-node.result c.index.result.now c.requires.replies.tree c.requires.replies.children_are c.requires.node c.requires.set below c.index.ensures in
     let before = c.loop-action.invariant b choice first decided from in
     let gives = rw found.0 at (c.in_ok-value.ensures b choice first decided) in
@@ -46,7 +46,7 @@ children_sum-loop-action-preserved t c = λ b choice first decided from.
 
 pub children_sum-returns : goal.children_sum-returns
 children_sum-returns t c = λ b choice first decided from.
-    let all : c.loop-action.action ≡ (game_at c.args.self.now).actions c.args.set = omega (arith, c.action_count-action-end.ensures) in
+    let all : c.loop-action.action ≡ (tree_game_at c.args.self.now).actions c.args.set = omega (arith, c.action_count-action-end.ensures) in
     rw (← all) (c.loop-action.invariant b choice first decided from)
 
 pub value-returns-in_err-following : goal.value-returns-in_err-following
@@ -70,7 +70,7 @@ value-returns t c = λ b choice first decided from.
 pub value_after-bounds-values-child : goal.value_after-bounds-values-child
 value_after-bounds-values-child t c =
     let set = sym c.set_at.ensures ∙ c.in-Some.is in
-    let own = (is_own-told (game_at c.args.self.now) c.args.self.now.player c.in-Some.set _ c.is_own.ensures).0 c.if-is_own.true in
+    let own = (is_own-told (tree_game_at c.args.self.now) c.args.self.now.player c.in-Some.set _ c.is_own.ensures).0 c.if-is_own.true in
     let below = c.requires.choices.within c.in-Some.set (c.requires.replies.tree.sets_within c.args.node c.in-Some.set c.requires.node set) own in
     let found = child-found (λ v. v.items) _ c.args.self.now.children.now c.args.node c.in-Some.set _ c.index-self-node.result c.index-child.result.now c.requires.replies.tree c.requires.replies.children_are c.requires.node set below c.index-child.ensures in
     omega (arith, found.2, c.requires.values)
@@ -78,7 +78,7 @@ value_after-bounds-values-child t c =
 pub value_after-returns-then-is_own : goal.value_after-returns-then-is_own
 value_after-returns-then-is_own t c = λ b choice first decided from.
     let set = sym c.set_at.ensures ∙ c.in-Some.is in
-    let own = (is_own-told (game_at c.args.self.now) c.args.self.now.player c.in-Some.set _ c.is_own.ensures).0 c.if-is_own.true in
+    let own = (is_own-told (tree_game_at c.args.self.now) c.args.self.now.player c.in-Some.set _ c.is_own.ensures).0 c.if-is_own.true in
     let below = c.requires.choices.within c.in-Some.set (c.requires.replies.tree.sets_within c.args.node c.in-Some.set c.requires.node set) own in
     let found = child-found (λ v. v.items) _ c.args.self.now.children.now c.args.node c.in-Some.set _ c.index-self-node.result c.index-child.result.now c.requires.replies.tree c.requires.replies.children_are c.requires.node set below c.index-child.ensures in
     let value = c.index-values-child.is ∙ get_or_default c.args.values.now c.index-child.result.now _ zero_ℚ (omega (arith, found.2, c.requires.values)) ∙ chosen-known _ b _ choice _ _ _ first decided c.args.node c.in-Some.set c.index-child.result.now c.requires.replies.tree c.requires.node set own from found.0 in
@@ -86,4 +86,4 @@ value_after-returns-then-is_own t c = λ b choice first decided from.
 
 pub value_after-returns-else-is_own : goal.value_after-returns-else-is_own
 value_after-returns-else-is_own t c = λ b choice first decided from.
-    other-gives _ b c.args.self.now.player choice c.requires.replies.tree c.args.node c.in-Some.set _ (sym c.set_at.ensures ∙ c.in-Some.is) (λ o. cc ((is_own-told (game_at c.args.self.now) c.args.self.now.player c.in-Some.set _ c.if-is_own.ensures).1 o)) (c.children_sum.ensures b choice first decided from)
+    other-gives _ b c.args.self.now.player choice c.requires.replies.tree c.args.node c.in-Some.set _ (sym c.set_at.ensures ∙ c.in-Some.is) (λ o. cc ((is_own-told (tree_game_at c.args.self.now) c.args.self.now.player c.in-Some.set _ c.if-is_own.ensures).1 o)) (c.children_sum.ensures b choice first decided from)

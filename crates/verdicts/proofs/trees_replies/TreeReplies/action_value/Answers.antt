@@ -3,7 +3,7 @@ use Rattle.std.proofs.lemmas.List.{length-set, length-map}
 use Rattle.std.proofs.lemmas.Result.{err_from_is_err_and}
 use Rattle.pure_payoffs.proofs.PlaceLemmas.{child-read, child-found}
 use Rattle.perfect_recall.proofs.MemberLemmas.{AreMembers}
-use Rattle.verdicts.specs.TreeReplies.{game_at}
+use Rattle.verdicts.specs.TreeReplies.{tree_game_at}
 use Rattle.verdicts.proofs.TreeMemberLemmas.{decided-fewer, later-sets, listed-are, listed-at, listed-child, summed-more, summed-all}
 use Rattle.frac128.proofs.SumStepLemmas.{number-refused, addition-refused}
 use Rattle.verdicts.proofs.trees_replies.TreeReplies.action_value.Goals as goal
@@ -78,4 +78,4 @@ pub returns : goal.returns
 returns c = λ b choice decided.
     let listed = listed-are c.args.self.now.tree.now _ c.args.set _ _ c.sets.ensures.valid c.sets.ensures.sets c.requires.set c.index-sets-set.is c.members-members.ensures in
     let all : c.loop-member.member-index ≡ length c.members-members.result.now = omega arith in
-    summed-all _ b _ choice _ _ c.requires.replies.tree c.args.set c.args.action c.requires.own c.requires.action c.loop-member.values c.loop-member.member-index c.loop-member.sum (subst (AreMembers (game_at c.args.self.now) c.args.set) listed.0 listed.1) (all ∙ ap length listed.0) (c.loop-member.invariant.1 b choice decided)
+    summed-all _ b _ choice _ _ c.requires.replies.tree c.args.set c.args.action c.requires.own c.requires.action c.loop-member.values c.loop-member.member-index c.loop-member.sum (subst (AreMembers (tree_game_at c.args.self.now) c.args.set) listed.0 listed.1) (all ∙ ap length listed.0) (c.loop-member.invariant.1 b choice decided)

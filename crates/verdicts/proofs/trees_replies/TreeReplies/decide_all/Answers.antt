@@ -4,13 +4,13 @@ use Rattle.std.proofs.lemmas.Result.{err_from_is_err_and}
 use Rattle.std.specs.Iterator.Adapters.{rev_source}
 use Rattle.std.specs.Slice.Iter.{iter_rest}
 use Rattle.game_theory.specs.OwnSets.{own_sets}
-use Rattle.verdicts.specs.TreeReplies.{game_at}
+use Rattle.verdicts.specs.TreeReplies.{tree_game_at}
 use Rattle.verdicts.proofs.TreeOwnSetLemmas.{all-done, all-none, all-own, between-own, decision-refused, later-decided}
 use Rattle.verdicts.proofs.trees_replies.TreeReplies.decide_all.Goals as goal
 use Rattle.verdicts.proofs.trees_replies.TreeReplies.decide_all.Goals.{In-Some}
 
 -- the own sets: those that are left, this one, and the later ones
-own : (c : In-Some) → iter_rest (rev_source c.next.new.self) ++ c.in-Some.set.now ∷ c.loop-set.invariant.later ≡ own_sets (game_at c.args.self.now) c.args.self.now.player
+own : (c : In-Some) → iter_rest (rev_source c.next.new.self) ++ c.in-Some.set.now ∷ c.loop-set.invariant.later ≡ own_sets (tree_game_at c.args.self.now) c.args.self.now.player
 own c =
     let left = iter_rest (rev_source c.next.new.self) in
     sym (append_assoc left (c.in-Some.set.now ∷ []) c.loop-set.invariant.later) ∙ ap (λ xs. xs ++ c.loop-set.invariant.later) (sym c.in-Some.ensures.steps) ∙ c.loop-set.invariant.own
@@ -22,20 +22,20 @@ loop-set-init c =
       choices = c.requires.choices;
       later = [];
       own = append-nil _ ∙ all;
-      decided = λ b choice none. all-none (game_at c.args.self.now) b c.args.self.now.player choice _ _ _ _ all none;
+      decided = λ b choice none. all-none (tree_game_at c.args.self.now) b c.args.self.now.player choice _ _ _ _ all none;
     }
 
 pub decide-requires-clause-set : goal.decide-requires-clause-set
 decide-requires-clause-set c =
-    (between-own (game_at c.args.self.now) c.args.self.now.player c.in-Some.set.now _ _ (own (goal.at.decide-requires-clause-set c).In-Some)).0
+    (between-own (tree_game_at c.args.self.now) c.args.self.now.player c.in-Some.set.now _ _ (own (goal.at.decide-requires-clause-set c).In-Some)).0
 
 pub decide-requires-clause-own : goal.decide-requires-clause-own
 decide-requires-clause-own c =
-    (between-own (game_at c.args.self.now) c.args.self.now.player c.in-Some.set.now _ _ (own (goal.at.decide-requires-clause-own c).In-Some)).1
+    (between-own (tree_game_at c.args.self.now) c.args.self.now.player c.in-Some.set.now _ _ (own (goal.at.decide-requires-clause-own c).In-Some)).1
 
 pub loop-set-preserved : goal.loop-set-preserved
 loop-set-preserved c =
-    let t = game_at c.args.self.now in
+    let t = tree_game_at c.args.self.now in
     let before = c.loop-set.invariant in
     let s = c.in-Some.set.now in
     let sets = own (goal.at.loop-set-preserved c).In-Some in
@@ -50,7 +50,7 @@ loop-set-preserved c =
 
 pub returns-in_err-decide-clause-decided : goal.returns-in_err-decide-clause-decided
 returns-in_err-decide-clause-decided c = λ b choice none.
-    let t = game_at c.args.self.now in
+    let t = tree_game_at c.args.self.now in
     let before = c.loop-set.invariant in
     let s = c.in-Some.set.now in
     let sets = own (goal.at.returns-in_err-decide-clause-decided c).In-Some in
@@ -61,4 +61,4 @@ returns-in_err-decide-clause-decided c = λ b choice none.
 pub returns-clause-decided : goal.returns-clause-decided
 returns-clause-decided c = λ b choice none.
     let before = c.loop-set.invariant in
-    all-done (game_at c.args.self.now) b c.args.self.now.player choice _ _ _ _ before.later c.in-None.ensures.steps.0 before.own (before.decided b choice none)
+    all-done (tree_game_at c.args.self.now) b c.args.self.now.player choice _ _ _ _ before.later c.in-None.ensures.steps.0 before.own (before.decided b choice none)

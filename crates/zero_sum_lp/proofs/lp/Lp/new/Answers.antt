@@ -10,5 +10,5 @@ invariant_of-result c = (
     second = c.requires.second_side;
     start = starts_for c.args.first c.args.second c.args.system.now c.in_ok-work.work c.requires.program.0 c.requires.program.1 c.in_ok-work.ensures.2.start c.in_ok-work.ensures.2.valid;
   },
-  shape_is c.args.first c.args.second c.sequences-2.result c.sequences.result (length c.sets.result.now) (length c.sets-2.result.now) (c.sequences-2.ensures ∙ c.requires.first_side.sequences_are) (c.sequences.ensures ∙ c.requires.second_side.sequences_are) (ap (λ (xs : List SetRow). length xs) c.sets.ensures) (ap (λ (xs : List SetRow). length xs) c.sets-2.ensures) c.requires.few,
+  shape_is c.args.first c.args.second c.sequences.result (length c.sets.result.now) (c.sequences.ensures ∙ c.requires.second_side.sequences_are) (ap (λ (xs : List SetRow). length xs) c.sets.ensures) c.requires.few,
 )

@@ -1,5 +1,0 @@
-use Rattle.lemke_pivot.proofs.ProblemPathLemmas as Paths
-use Rattle.lemke_pivot.proofs.least_is_negative.Goals as goal
-
-pub returns : goal.returns
-returns c = Paths.least_is_negative

@@ -1,8 +1,0 @@
-use Rattle.std.proofs.Common.{◌∙◌, ap, get_or, List}
-use Rattle.sequence_data.specs.declared.types.SetRow.{SetRow}
-use Rattle.sequence_data.proofs.SetEntryLemmas.{first_read}
-use Rattle.sequence_data.proofs.set_rows.set_at.Goals as goal
-
-pub returns-clause-first : goal.returns-clause-first
-returns-clause-first c =
-    ap (λ (xs : List SetRow). (get_or xs c.args.place (record { before = 0; first = 0; count = 0 })).first) c.sets.ensures ∙ first_read c.args.side.now c.args.place (record { before = 0; first = 0; count = 0 }) c.requires.side c.requires.place
