@@ -305,7 +305,6 @@ fn found_count(pieces: &[Option<Box<Reached>>]) -> usize {
 }
 
 // Makes all pieces that are left, which helpers share.
-#[tactic(auto, using(crate::proofs::NextLevelLemmas::stop_made, crate::proofs::WalkLemmas::adding_start))]
 fn share_children<R: Threads + Sync, G: Gate, L: Ledger>(
     workshop: &Workshop<R, G>,
     expansion: &Expansion,

@@ -1,15 +1,17 @@
 -- Where the values of choices stand.
-use Rattle.std.proofs.Common.{ℕ, zero, suc, ◌+◌, ◌*◌, ◌<◌, ◌≡◌, ◌∙◌, List, [], ◌∷◌, ◌++◌, length, map, get_or, ap, arith}
+use Rattle.std.proofs.Common.{ℕ, zero, suc, ◌+◌, ◌*◌, ◌<◌, ◌≡◌, ◌∙◌, List, [], ◌∷◌, ◌++◌, length, get_or, ap, arith}
 use Rattle.std.specs.List.{flat_map, range_with_len}
-use Rattle.std.proofs.lemmas.List.{get_or-append-add, get_or-map, get_or_append_left, length-append, length-map}
+use Rattle.std.proofs.lemmas.List.{get_or-append-add, get_or_append_left, length-append}
 use Rattle.std.proofs.lemmas.List.FromFn.{get_or-range_with_len, length-range_with_len}
 use Rattle.std.proofs.lemmas.Nat.{mul-add-lt}
-use Rattle.rational.specs.Rational.{zero_ℚ}
+use Rattle.rational.specs.Rational.{ℚ, zero_ℚ}
 use Rattle.rational.specs.Sum.{entry_at}
 use Rattle.game_theory.specs.Behaviour.{pure, value}
+use Rattle.game_theory.specs.Lines.{listed}
 use Rattle.game_theory.specs.Trees.{Tree}
+use Rattle.game_theory.proofs.ProfileLineLemmas.{get_or-listed, length-listed}
 use Rattle.enumpure_trees.specs.Choices.{numbered_choice, whole_choices}
-use Rattle.enumpure_trees.specs.Values.{ValueIndex, choice_values, indices_of, value_at, value_index, value_indices}
+use Rattle.enumpure_trees.specs.Values.{choice_values, values_of}
 
 -- ---- lists of parts of one length
 module _ {X Y : Type 0} (f : X → List Y) (m : ℕ) (each : (x : X) → length (f x) ≡ m) where
@@ -27,18 +29,21 @@ module _ {X Y : Type 0} (f : X → List Y) (m : ℕ) (each : (x : X) → length 
 
 -- ---- the values
 module _ (t : Tree) (nodes : List ℕ) where
-  -- those of one choice at one node
-  length-at_node : (n k : ℕ) → length (map (value_index n k) (range_with_len 0 t.players)) ≡ t.players
-  length-at_node n k = length-map (range_with_len 0 t.players) (value_index n k) ∙ length-range_with_len 0 t.players
+  -- what a node is worth to the players under the choice with a number
+  abbrev row : ℕ → ℕ → List ℚ
+  row n k = listed t.players (λ i. value t (pure (numbered_choice t n)) i k)
 
-  -- those of one choice
-  length-of_choice : (n : ℕ) → length (indices_of t nodes n) ≡ length nodes * t.players
-  length-of_choice n = length-even_parts (λ k. map (value_index n k) (range_with_len 0 t.players)) t.players (length-at_node n) nodes
+  length-row : (n k : ℕ) → length (row n k) ≡ t.players
+  length-row n k = length-listed t.players (λ i. value t (pure (numbered_choice t n)) i k)
+
+  -- the values of one choice
+  length-of_choice : (n : ℕ) → length (values_of t nodes n) ≡ length nodes * t.players
+  length-of_choice n = length-even_parts (row n) t.players (length-row n) nodes
 
   -- all of them
   pub length-choice_values : length (choice_values t nodes) ≡ whole_choices t * (length nodes * t.players)
   length-choice_values =
-      length-map (value_indices t nodes) (value_at t) ∙ length-even_parts (indices_of t nodes) (length nodes * t.players) length-of_choice (range_with_len 0 (whole_choices t)) ∙ ap (λ x. x * (length nodes * t.players)) (length-range_with_len 0 (whole_choices t))
+      length-even_parts (values_of t nodes) (length nodes * t.players) length-of_choice (range_with_len 0 (whole_choices t)) ∙ ap (λ x. x * (length nodes * t.players)) (length-range_with_len 0 (whole_choices t))
 
   module _ (n p i : ℕ) (choice : n < whole_choices t) (node : p < length nodes) (player : i < t.players) where
     in_choice : p * t.players + i < length nodes * t.players
@@ -48,17 +53,10 @@ module _ (t : Tree) (nodes : List ℕ) where
     pub index-inside : n * (length nodes * t.players) + (p * t.players + i) < length (choice_values t nodes)
     index-inside = omega (arith, mul-add-lt n (length nodes * t.players) (p * t.players + i) (whole_choices t) choice in_choice, length-choice_values)
 
-    index-at : get_or (value_indices t nodes) (n * (length nodes * t.players) + (p * t.players + i)) (value_index 0 0 0) ≡ value_index n (get_or nodes p 0) i
-    index-at =
-        let at_node : ℕ → List ValueIndex = λ k. map (value_index n k) (range_with_len 0 t.players) in
-        get_or-even_parts (indices_of t nodes) (length nodes * t.players) length-of_choice (range_with_len 0 (whole_choices t)) n (p * t.players + i) 0 (value_index 0 0 0) (omega (arith, choice, length-range_with_len 0 (whole_choices t))) in_choice
-        ∙ ap (λ c. get_or (indices_of t nodes c) (p * t.players + i) (value_index 0 0 0)) (get_or-range_with_len 0 (whole_choices t) n 0 choice ∙ omega arith)
-        ∙ get_or-even_parts at_node t.players (length-at_node n) nodes p i 0 (value_index 0 0 0) node player
-        ∙ get_or-map (value_index n (get_or nodes p 0)) (range_with_len 0 t.players) i 0 (value_index 0 0 0) (omega (arith, player, length-range_with_len 0 t.players))
-        ∙ ap (value_index n (get_or nodes p 0)) (get_or-range_with_len 0 t.players i 0 player ∙ omega arith)
-
     -- what stands there
     pub value-there : entry_at (choice_values t nodes) (n * (length nodes * t.players) + (p * t.players + i)) ≡ value t (pure (numbered_choice t n)) i (get_or nodes p 0)
     value-there =
-        get_or-map (value_at t) (value_indices t nodes) (n * (length nodes * t.players) + (p * t.players + i)) (value_index 0 0 0) zero_ℚ (omega (arith, index-inside, length-map (value_indices t nodes) (value_at t)))
-        ∙ ap (value_at t) index-at
+        get_or-even_parts (values_of t nodes) (length nodes * t.players) length-of_choice (range_with_len 0 (whole_choices t)) n (p * t.players + i) 0 zero_ℚ (omega (arith, choice, length-range_with_len 0 (whole_choices t))) in_choice
+        ∙ ap (λ c. entry_at (values_of t nodes c) (p * t.players + i)) (get_or-range_with_len 0 (whole_choices t) n 0 choice ∙ omega arith)
+        ∙ get_or-even_parts (row n) t.players (length-row n) nodes p i 0 zero_ℚ node player
+        ∙ get_or-listed t.players (λ j. value t (pure (numbered_choice t n)) j (get_or nodes p 0)) i zero_ℚ player

@@ -2,9 +2,9 @@
 use Rattle.std.specs.Prelude.{ℕ, ◌*◌, List, length, map}
 use Rattle.std.specs.List.{flat_map, range_with_len}
 use Rattle.frac128.specs.Steps.{Step}
-use Rattle.game_theory.specs.Behaviour.{pure, value}
 use Rattle.game_theory.specs.Trees.{Tree}
 use Rattle.pure_payoffs.specs.Steps.{steps_at}
+use Rattle.pure_payoffs.specs.Stops.{node_players, node_values}
 use Rattle.rational.specs.Rational.{ℚ}
 use Rattle.enumpure_trees.specs.Choices.{numbered_choice, whole_choices}
 
@@ -14,14 +14,13 @@ pub record ValueIndex : Type 0 where
   pub node : ℕ
   pub player : ℕ
 
--- the index of these numbers
-abbrev pub value_index : ℕ → ℕ → ℕ → ValueIndex
-value_index choice node player = record { choice = choice; node = node; player = player }
+-- the index of the value of a node for a player under the choice with a number
+abbrev pub value_index : ℕ → ℕ × ℕ → ValueIndex
+value_index choice pair = record { choice = choice; node = pair.0; player = pair.1 }
 
--- the values of one choice: node by node, and in each player by player
+-- those of one choice
 abbrev pub indices_of : Tree → List ℕ → ℕ → List ValueIndex
-indices_of t nodes n =
-    flat_map (λ k. map (value_index n k) (range_with_len 0 t.players)) nodes
+indices_of t nodes n = map (value_index n) (node_players t nodes)
 
 -- those of all choices in order
 abbrev pub value_indices : Tree → List ℕ → List ValueIndex
@@ -31,13 +30,13 @@ value_indices t nodes = flat_map (indices_of t nodes) (range_with_len 0 (whole_c
 abbrev pub value_count : Tree → List ℕ → ℕ
 value_count t nodes = whole_choices t * (length nodes * t.players)
 
--- the value with an index
-abbrev pub value_at : Tree → ValueIndex → ℚ
-value_at t v = value t (pure (numbered_choice t v.choice)) v.player v.node
+-- the values of one choice
+abbrev pub values_of : Tree → List ℕ → ℕ → List ℚ
+values_of t nodes n = node_values t (numbered_choice t n) nodes
 
 -- the values of all choices in order
 abbrev pub choice_values : Tree → List ℕ → List ℚ
-choice_values t nodes = map (value_at t) (value_indices t nodes)
+choice_values t nodes = flat_map (values_of t nodes) (range_with_len 0 (whole_choices t))
 
 -- the steps of the value with an index
 abbrev pub value_steps : Tree → ValueIndex → List Step

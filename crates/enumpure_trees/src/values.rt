@@ -132,10 +132,8 @@ fn push_choice(
     ensures stop { Gives stops.Memory (refused_by (at_choice choice)
         (all_values_fit (game_of play.now) (choice_of play.now) nodes.now)) result }
 {
-    match play.push_all_values(shortcuts, nodes, values) {
-        Ok(()) => Ok(()),
-        Err(stop) => Err(at_choice(choice, stop)),
-    }
+    play.push_all_values(shortcuts, nodes, values)
+        .map_err(|stop| at_choice(choice, stop))
 }
 
 /// The number of choices, and their values at these nodes: choice by choice, in each node by node,

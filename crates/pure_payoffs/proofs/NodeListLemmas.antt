@@ -1,29 +1,19 @@
 -- What nodes one after another are worth, and the steps in which that is computed.
-use Rattle.std.proofs.Common.{ℕ, zero, suc, ◌+◌, ◌≡◌, inl, inr, Some, Ok, Err, List, [], ◌∷◌, ◌++◌, map, take, slice_get, All, refl, sym, ap, ◌∙◌, add-one, arith}
+use Rattle.std.proofs.Common.{ℕ, ◌+◌, ◌≡◌, inl, inr, Some, Ok, Err, List, [], ◌∷◌, ◌++◌, map, take, slice_get, All, sym, ap, ◌∙◌}
 use Rattle.std.specs.List.{range_with_len}
 use Rattle.std.proofs.lemmas.List.{flat_map_more, take_more}
 use Rattle.std.proofs.lemmas.List.Elements.{All-map}
-use Rattle.std.proofs.lemmas.List.FromFn.{map-range_with_len_more}
 use Rattle.std.proofs.lemmas.Option.{slice_get_within, get_or_from_slice_get}
-use Rattle.answers.specs.Answers.{Gives}
+use Rattle.answers.specs.Answers.{Gives, refused_by}
 use Rattle.rational.specs.Rational.{ℚ}
 use Rattle.frac128.specs.FirstUnfit.{StepsFit}
 use Rattle.frac128.proofs.UnfitListLemmas.{first_of-map, parts_fit, first_of-part}
 use Rattle.game_theory.specs.Behaviour.{pure, value}
 use Rattle.game_theory.specs.Lines.{listed}
 use Rattle.game_theory.specs.Trees.{Tree}
-use Rattle.game_theory.proofs.EntryLemmas.{listed-next}
 use Rattle.pure_payoffs.specs.Stops.{all_values_fit, at_node, node_players, node_values, steps_of, values_fit}
-use Rattle.pure_payoffs.specs.declared.stop.PayoffStop.{PayoffStop}
-use Rattle.pure_payoffs.specs.declared.stop.PayoffStop.TheVariants as stops
 use Rattle.pure_payoffs.specs.declared.stop.ValueStop.{ValueStop}
 use Rattle.pure_payoffs.specs.declared.stop.ValueStop.TheVariants as value_stops
-
--- what is made of the first numbers
-pub map-listed : (n : ℕ) (f : ℕ → ℚ) → map f (range_with_len 0 n) ≡ listed n f
-map-listed zero f = refl
-map-listed (suc n) f =
-    ap (λ k. map f (range_with_len 0 k)) (sym (add-one n)) ∙ map-range_with_len_more f 0 n n (omega arith) ∙ ap (λ xs. xs ++ f n ∷ []) (map-listed n f) ∙ sym (listed-next n f)
 
 module _ (t : Tree) (choice : ℕ → ℕ) (nodes : List ℕ) (k node : ℕ) (at : slice_get nodes k ≡ Some node) where
   -- what a node is worth to the players
@@ -49,7 +39,7 @@ module _ (t : Tree) (choice : ℕ → ℕ) (nodes : List ℕ) (k node : ℕ) (at
     node_fits h = parts_fit (steps_of t choice) pairs nodes k node at fit (All-map (StepsFit (steps_of t choice)) (λ i. (node, i)) (range_with_len 0 t.players) h)
 
     -- or the first that does not is the first of all
-    pub node_stops : (stop : PayoffStop) (told : ValueStop) → told ≡ at_node node stop → Gives stops.Memory (values_fit t choice node) (Err stop) → Gives value_stops.Memory (all_values_fit t choice nodes) (Err told)
-    node_stops stop told is (inl m) = inl (is ∙ ap (at_node node) m)
-    node_stops stop told is (inr ((i, step), first, why)) =
+    pub node_stops : (told : ValueStop) → Gives value_stops.Memory (refused_by (at_node node) (values_fit t choice node)) (Err told) → Gives value_stops.Memory (all_values_fit t choice nodes) (Err told)
+    node_stops told (inl m) = inl m
+    node_stops told (inr (stop, ((i, step), first, why), is)) =
         inr (((node, i), step), first_of-part (steps_of t choice) pairs nodes k node at (node, i) step fit (first_of-map (steps_of t choice) (λ j. (node, j)) (range_with_len 0 t.players) i step first), is ∙ ap (at_node node) why)

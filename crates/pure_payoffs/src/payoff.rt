@@ -131,10 +131,8 @@ impl<'a> Play<'a> {
             (all_values_fit (game_of self.now) (choice_of self.now) nodes.now) result }
     {
         for node in nodes {
-            match self.push_values(entries, *node, values) {
-                Ok(()) => {}
-                Err(stop) => return Err(at_node(*node, stop)),
-            }
+            self.push_values(entries, *node, values)
+                .map_err(|stop| at_node(*node, stop))?;
         }
         Ok(())
     }
@@ -158,10 +156,10 @@ impl<'a> Play<'a> {
             (values_fit (game_of self.now) (choice_of self.now) node) result }
     {
         for player in 0..self.tree.players().len() as u32 {
-            match self.value(entries, node, player) {
-                Ok(value) => values.push(value)?,
-                Err(unfit) => return Err(PayoffStop::Range { player, unfit }),
-            }
+            let value = self
+                .value(entries, node, player)
+                .map_err(|unfit| PayoffStop::Range { player, unfit })?;
+            values.push(value)?;
         }
         Ok(())
     }

@@ -20,7 +20,7 @@ pub(crate) struct Settled {
 }
 
 // For each node whether no player moves there.
-fn nodes_of_chance(alloc: Global, tree: &Tree) -> Result<Vec<bool>, Memory>
+fn nodes_without_players(alloc: Global, tree: &Tree) -> Result<Vec<bool>, Memory>
     ensures { IfOk result
         (λ idle. AreWithoutPlayers (game_of_tree tree.now) idle.items) }
 {
@@ -36,7 +36,7 @@ fn settled_nodes(alloc: Global, tree: &Tree) -> Result<Vec<bool>, Memory>
     ensures { IfOk result (λ idle. AreSettledNodes (game_of_tree tree.now) idle.items) }
 {
     tree.stands_for_game_tree();
-    let mut idle = nodes_of_chance(alloc, tree)?;
+    let mut idle = nodes_without_players(alloc, tree)?;
     for node in (1..tree.nodes().len()).rev() {
         if !idle[node] {
             idle[tree.parent(node)] = false;

@@ -6,6 +6,7 @@ pub mod FoundReplyLemmas
 pub mod MappedErrorLemmas
 pub mod SameEntryLemmas
 pub mod TableBlockLemmas
+pub mod TableDeciderLemmas
 pub mod TableOtherLemmas
 pub mod TablePartLemmas
 pub mod TableSingleLemmas

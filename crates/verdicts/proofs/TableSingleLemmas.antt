@@ -17,7 +17,8 @@ use Rattle.best_replies.specs.Strategies.{own_as_one, strategy_value, weight, va
 use Rattle.best_replies.proofs.FirstGreatestLemmas.{IsFirstGreatest-same, first_greatest-unique}
 use Rattle.verdicts.specs.TableChecks.{PassesTable, IsBetterReply, IsFirstBetter, IsRangeStop, IsTableVerdict, others_probabilities, payoff_below, payoff_steps, table_player_steps, product_steps, steps_at, strategy_steps, value_steps, weighed_steps}
 use Rattle.verdicts.specs.TableLaws.{TableVerdictsAreSingle}
-use Rattle.verdicts.proofs.TableOtherLemmas.{others_from, others-from_first}
+use Rattle.verdicts.specs.TableReplies.{others_from}
+use Rattle.verdicts.proofs.TableOtherLemmas.{others-from_first}
 use Rattle.verdicts.specs.declared.tables.TableVerdict.{TableVerdict}
 use Rattle.verdicts.specs.declared.tables.TableVerdict.TheVariants.{Equilibrium, Better, Range}
 

@@ -11,6 +11,9 @@ use crate::mixed::Mixed;
 use frac128::{Frac, Unfit};
 use game_core::Table;
 
+// The most deciders that are listed: more than can have two strategies each.
+const MOST_LISTED: usize = 20;
+
 /// What a mixed profile of a table is. Players and strategies count from 0.
 #[derive(Clone, Copy, Debug, PartialEq, Eq)]
 pub enum TableVerdict {
@@ -58,6 +61,25 @@ struct BetterReply {
     reply: u32,
 }
 
+// A player of a table, and the place of the player's first entry.
+#[derive(Clone, Copy)]
+struct Decider {
+    player: usize,
+    first: usize,
+}
+
+// The players by whom the weights of profiles differ or are not 1, in order. Each other player
+// has one strategy, and its entry is 1.
+#[derive(Clone, Copy)]
+struct Deciders {
+    // These, and then what is not read.
+    listed: [Decider; MOST_LISTED],
+    // How many are listed.
+    count: usize,
+    // The first player who is not told of here, one past the last where there is none.
+    end: Decider,
+}
+
 // A player of a table, to whom the mixed strategies of the others leave a reply. Players,
 // strategies and profiles are numbered from 0.
 #[derive(Drop)]
@@ -72,6 +94,8 @@ struct TableReplies<'a> {
     first: usize,
     // By how much a profile's number grows with the player's strategy.
     stride: usize,
+    // The players by whom the weights of profiles differ or are not 1.
+    deciders: &'a Deciders,
 }
 
 // Adds the product of a weight and a number to a sum; a weight of 0 adds nothing.
@@ -94,6 +118,44 @@ fn with_weighed(sum: Result<Frac, Unfit>, weight: Frac, number: Frac) -> Result<
     add_weighed(sum?, weight, number)
 }
 
+impl Deciders {
+    ghost use Rattle.std.specs.Prelude.{◌≡◌, length, sum};
+    ghost use Rattle.game_core.specs.Table.{strategy_counts};
+    ghost use Rattle.verdicts.specs.TableReplies.{AreDeciders};
+
+    // The players by whom the weights of profiles differ or are not 1.
+    fn new(table: &Table, mixed: &Mixed) -> Deciders
+        requires { length mixed.now ≡ sum (strategy_counts table.now) }
+        ensures { AreDeciders table.now mixed.now result }
+    {
+        let entries = mixed.entries();
+        let one = Frac::one();
+        let mut listed = [Decider {
+            player: 0,
+            first: 0,
+        }; MOST_LISTED];
+        let mut count = 0;
+        let mut first = 0;
+        for player in 0..table.players().len() {
+            let strategies = table.strategy_count(player);
+            if strategies > 1 || entries[first] != one {
+                if count == MOST_LISTED {
+                    let end = Decider { player, first };
+                    return Deciders { listed, count, end };
+                }
+                listed[count] = Decider { player, first };
+                count += 1;
+            }
+            first += strategies;
+        }
+        let end = Decider {
+            player: table.players().len(),
+            first,
+        };
+        Deciders { listed, count, end }
+    }
+}
+
 impl<'a> TableReplies<'a> {
     ghost use Rattle.std.specs.Prelude.{
       ◌≡◌,
@@ -102,6 +164,7 @@ impl<'a> TableReplies<'a> {
       ◌≤◌,
       ℕ,
       All,
+      drop,
       slice_index,
       IfOk,
       IfErr,
@@ -127,21 +190,22 @@ impl<'a> TableReplies<'a> {
       value_steps,
       table_weight_steps,
     };
-    ghost use Rattle.verdicts.specs.TableReplies.{AreTableReplies, table_game_at, mixed_at};
+    ghost use Rattle.verdicts.specs.TableReplies.{AreTableReplies, GiveFrom, table_game_at, mixed_at};
 
-    // The product of the probabilities with which the others play a profile.
-    fn others_weight(&self, profile: usize) -> Result<Frac, Unfit>
+    // A product, times the probabilities with which the others who are not told of in `deciders`
+    // play what is left of a profile's number.
+    fn later_weight(&self, so_far: Frac, left: usize) -> Result<Frac, Unfit>
         requires replies { AreTableReplies self.now }
-        ensures { let m = mixed_at self.now in
-            let i = self.now.player in
-            let strategies = profile_at (strategy_counts self.now.table.now) profile in
-            StepsGive (table_weight_steps m i strategies) (weight m i strategies) result }
+        ensures { let counts = strategy_counts self.now.table.now in
+            let j = self.now.deciders.now.end.player in
+            let strategies = profile_at (drop j counts) left in
+            GiveFrom (mixed_at self.now) self.now.player j strategies so_far result }
     {
         let entries = self.mixed.entries();
-        let mut product = Frac::one();
-        let mut first = 0;
-        let mut rest = profile;
-        for other in 0..self.table.players().len() {
+        let mut product = so_far;
+        let mut first = self.deciders.end.first;
+        let mut rest = left;
+        for other in self.deciders.end.player..self.table.players().len() {
             let count = self.table.strategy_count(other);
             if other != self.player {
                 product = product.mul(entries[first + rest % count])?;
@@ -153,6 +217,31 @@ impl<'a> TableReplies<'a> {
             rest /= count;
         }
         Ok(product)
+    }
+
+    // The product of the probabilities with which the others play a profile.
+    fn others_weight(&self, profile: usize) -> Result<Frac, Unfit>
+        requires replies { AreTableReplies self.now }
+        ensures { let m = mixed_at self.now in
+            let i = self.now.player in
+            let strategies = profile_at (strategy_counts self.now.table.now) profile in
+            StepsGive (table_weight_steps m i strategies) (weight m i strategies) result }
+    {
+        let entries = self.mixed.entries();
+        let mut product = Frac::one();
+        let mut rest = profile;
+        for place in 0..self.deciders.count {
+            let decider = self.deciders.listed[place];
+            let count = self.table.strategy_count(decider.player);
+            if decider.player != self.player {
+                product = product.mul(entries[decider.first + rest % count])?;
+                if product.is_zero() {
+                    return Ok(product);
+                }
+            }
+            rest /= count;
+        }
+        self.later_weight(product, rest)
     }
 
     // Adds what a strategy is worth at the profiles from one on to a sum, where it is played in
@@ -273,6 +362,7 @@ pub fn check_table(table: &Table, mixed: &Mixed) -> TableVerdict
     requires { length mixed.now ≡ sum (strategy_counts table.now) }
     ensures { table_verdict table.now mixed.now result }
 {
+    let deciders = Deciders::new(table, mixed);
     let mut first = 0;
     let mut stride = 1;
     for player in 0..table.players().len() {
@@ -282,6 +372,7 @@ pub fn check_table(table: &Table, mixed: &Mixed) -> TableVerdict
             player,
             first,
             stride,
+            deciders: &deciders,
         };
         match replies.better_reply() {
             Ok(None) => {}

@@ -92,7 +92,7 @@ fn parts_text(alloc: Global, tree: &Tree) -> Result<Vec<u8>, Memory> {
     Ok(text)
 }
 
-// Whether a tree has these parts, and is named so.
+// Whether a text is that of a tree with these parts.
 fn has_parts(alloc: Global, text: &[u8], parts: &str) -> Result<bool, Memory> {
     match tree_of(alloc, text) {
         Some(tree) => Ok(parts_text(alloc, &tree)?.as_slice() == parts.as_bytes()),

@@ -9,7 +9,7 @@ p "" 2 1 "" { "" "" } 0
 p "" 2 7 "" { "" "" } 0 t "" 1 "" { 0, 0 } t "" 1
 p "" 2 7 "" 0 t "" 1 t "" 1"#;
 
-// Whether all players of a tree recall, with these steps before its sets.
+// Whether all players of a tree recall, with these own sets and actions last before its sets.
 fn recalls(alloc: Global, text: &[u8], before: &[Option<(u32, u32)>]) -> bool {
     let Some(tree) = tree_of(alloc, text) else {
         return false;

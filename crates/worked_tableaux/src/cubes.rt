@@ -89,7 +89,8 @@ pub(crate) fn counted<R: Threads + Sync, G: Gate>(
 }
 
 /// Cubes with few bases, with nearly as many as may be, and with too many, by one worker and by
-/// seven.
+/// seven. Of the bases of the cube of 15 dimensions the half on the levels 0 to 7 is within the
+/// limit, and the next level passes it: 16384 + 6435.
 #[test]
 fn bases_of_cubes(rt: HostRuntime) -> Result<(), Stop> {
     let alloc = rt.alloc();

@@ -98,20 +98,18 @@ fn paired<R: Threads + Sync>(
 fn limit_of_pairs(rt: HostRuntime) -> Result<(), Stop> {
     let alloc = rt.alloc();
     let Ok(most) = paired(&rt, alloc, 1024, 1024)? else {
-        return Err(Stop::Memory);
+        return Err(Stop::Refused);
     };
     assert_eq!(rt; most.len(), 1_048_576);
     assert!(rt; most.first() == Some(&(0, 0)));
     assert!(rt; most.get(1024) == Some(&(1, 0)));
     assert!(rt; most.last() == Some(&(1023, 1023)));
-    let Err(stop) = paired(&rt, alloc, 1025, 1024)? else {
-        return Err(Stop::Unfit);
-    };
     let limit = TooLarge {
         what: What::Pairs,
         count: 1_049_600,
         limit: 1_048_576,
     };
-    assert!(rt; stop == PairStop::TooLarge(limit));
+    let refused = paired(&rt, alloc, 1025, 1024)?;
+    assert!(rt; matches!(refused, Err(PairStop::TooLarge(found)) if found == limit));
     Ok(())
 }

@@ -1,4 +1,5 @@
 use Rattle.std.proofs.Common.{◌≡◌, ap, length, sym, subst, arith}
+use Rattle.std.proofs.lemmas.Result.{err_from_is_err_and}
 use Rattle.basis_enum.specs.Children.{AreChildren}
 use Rattle.basis_enum.specs.Walks.{AddsVertices}
 use Rattle.basis_enum.proofs.NextLevelLemmas.{made_start}
@@ -31,3 +32,23 @@ returns-clause-children g c =
 
 pub returns-clause-vertices : goal.returns-clause-vertices
 returns-clause-vertices g c = c.loop-made.invariant.vertices
+
+pub returns-in_err-make_more-clause-bounded : goal.returns-in_err-make_more-clause-bounded
+returns-in_err-make_more-clause-bounded g c = omega (arith, c.make_more.ensures.bounded, c.loop-made.invariant.counted)
+
+pub returns-in_err-make_more-clause-risen : goal.returns-in_err-make_more-clause-risen
+returns-in_err-make_more-clause-risen g c = omega (arith, c.make_more.ensures.risen, c.loop-made.invariant.counted)
+
+pub returns-in_err-make_more-clause-stop : goal.returns-in_err-make_more-clause-stop
+returns-in_err-make_more-clause-stop g c =
+    let p = err_from_is_err_and c.from_residual-in_err-make_more.result c.from_residual-in_err-make_more.ensures.1 in
+    rw (p.1, p.2) c.in_err-make_more.ensures.stop
+
+pub returns-clause-found : goal.returns-clause-found
+returns-clause-found g c = c.loop-made.invariant.made.pivots_are
+
+pub returns-clause-bounded : goal.returns-clause-bounded
+returns-clause-bounded g c = omega (arith, c.loop-made.invariant.counted, c.loop-made.invariant.made.tableaux.within)
+
+pub returns-clause-risen : goal.returns-clause-risen
+returns-clause-risen g c = omega (arith, c.loop-made.invariant.counted)

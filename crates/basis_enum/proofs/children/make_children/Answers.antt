@@ -1,4 +1,4 @@
-use Rattle.std.proofs.Common.{◌∙◌, ◌∷◌, [], ap, length, arith}
+use Rattle.std.proofs.Common.{◌<◌, ◌∙◌, ◌∷◌, [], ap, length, arith}
 use Rattle.std.proofs.lemmas.List.{length-append}
 use Rattle.std.proofs.lemmas.Result.{err_from_is_err_and}
 use Rattle.basis_enum.proofs.NextLevelLemmas.{made_more, stop_made}
@@ -24,3 +24,15 @@ pub returns-in_err-reached-clause-stop : goal.returns-in_err-reached-clause-stop
 returns-in_err-reached-clause-stop g c =
     let p = err_from_is_err_and c.from_residual.result c.from_residual.ensures.1 in
     rw (p.1, p.2) (stop_made c.args.expansion.now c.loop-place.made c.loop-place.place c.in_err-reached.field-0.0 c.loop-place.invariant.at (omega (arith, c.min-end.ensures)) c.loop-place.invariant.made c.in_err-reached.ensures)
+
+pub returns-in_err-reached-clause-bounded : goal.returns-in_err-reached-clause-bounded
+returns-in_err-reached-clause-bounded g c = omega (arith, c.loop-place.invariant.counted, c.loop-place.invariant.made.tableaux.within)
+
+pub returns-in_err-add_reached-clause-bounded : goal.returns-in_err-add_reached-clause-bounded
+returns-in_err-add_reached-clause-bounded g c =
+    let is = c.loop-place.invariant in
+    let below : c.loop-place.place < length c.args.expansion.now.next.now = omega (arith, c.min-end.ensures) in
+    omega (arith, c.tick.ensures, is.counted, is.at, below)
+
+pub returns-clause-bounded : goal.returns-clause-bounded
+returns-clause-bounded g c = omega (arith, c.loop-place.invariant.counted, c.loop-place.invariant.made.tableaux.within)

@@ -89,3 +89,21 @@ returns-clause-walk g c =
     rw (c.replace.ensures.after)
     (walk_next c.args.system.now c.args.number c.args.walk.now (record { level = c.in_ok-tableaux.field-0.tableaux; known = c.in_ok-known.known; vertices = c.next_level.new.vertices; spent = c.add.new.self }) c.args.next.now (map target_of c.args.next.now)
     c.requires.enumerable c.requires.walk c.requires.next c.requires.some few children refl merged c.in_ok-tableaux.ensures.vertices)
+
+pub returns-in_err-tableaux-clause-bounded : goal.returns-in_err-tableaux-clause-bounded
+returns-in_err-tableaux-clause-bounded g c =
+    let few : length c.args.walk.now.known.items + length c.args.next.now ≤ most_bases = subst (λ xs. length xs + length c.args.next.now ≤ most_bases) c.as_slice.ensures.value c.in_ok-known.ensures.few in
+    let more : c.next_level.new.pivots ≤ c.args.pivots.now + length c.args.next.now = c.next_level.ensures.bounded in
+    omega (arith, few, more)
+
+pub returns-in_err-tableaux-clause-risen : goal.returns-in_err-tableaux-clause-risen
+returns-in_err-tableaux-clause-risen g c = c.next_level.ensures.risen
+
+pub returns-clause-bounded : goal.returns-clause-bounded
+returns-clause-bounded g c =
+    let few : length c.args.walk.now.known.items + length c.args.next.now ≤ most_bases = subst (λ xs. length xs + length c.args.next.now ≤ most_bases) c.as_slice.ensures.value c.in_ok-known.ensures.few in
+    let more : c.next_level.new.pivots ≤ c.args.pivots.now + length c.args.next.now = c.next_level.ensures.bounded in
+    omega (arith, few, more)
+
+pub returns-clause-risen : goal.returns-clause-risen
+returns-clause-risen g c = c.next_level.ensures.risen

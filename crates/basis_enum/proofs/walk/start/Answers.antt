@@ -1,4 +1,4 @@
-use Rattle.std.proofs.Common.{◌≡◌, ◌∙◌, ◌++◌, ◌∷◌, [], List, option_to_list, ap, sym, subst, subst₂, arith}
+use Rattle.std.proofs.Common.{◌≡◌, ◌∙◌, ◌++◌, ◌∷◌, [], List, length, option_to_list, ap, inl, refl, sym, subst, subst₂, arith}
 use Rattle.std.proofs.lemmas.Result.{err_from_is_err_and}
 use Rattle.std.specs.List.Sorted.{IsStrictlyIncreasing}
 use Rattle.basis_enum.specs.declared.vertex.Vertex.{Vertex}
@@ -54,3 +54,31 @@ returns-clause-next g c =
     subst₂ (λ level known. AreNewPivots level known c.next_pivots-next.result.items) (sym c.in_ok-level.ensures.items) c.as_slice.ensures.value
     (new_pivots_are (t ∷ []) c.as_slice.result.now c.in_ok-findings.findings.found.items c.next_pivots-next.result.items (first_all_ready t ready) (omega arith)
     (first_found t c.as_slice.result.now c.in_ok-findings.findings.found.items c.in_ok-findings.ensures.found) c.next_pivots-next.ensures)
+
+pub returns-in_err-known-clause-stop : goal.returns-in_err-known-clause-stop
+returns-in_err-known-clause-stop g c =
+    let p = err_from_is_err_and c.from_residual-in_err-known.result c.from_residual-in_err-known.ensures.1 in
+    rw (p.1, p.2) (inl refl)
+
+pub returns-in_err-findings-clause-stop : goal.returns-in_err-findings-clause-stop
+returns-in_err-findings-clause-stop g c =
+    let p = err_from_is_err_and c.from_residual-in_err-findings.result c.from_residual-in_err-findings.ensures.1 in
+    rw (p.1, p.2) (inl refl)
+
+pub returns-in_err-level-clause-stop : goal.returns-in_err-level-clause-stop
+returns-in_err-level-clause-stop g c =
+    let p = err_from_is_err_and c.from_residual-in_err-level.result c.from_residual-in_err-level.ensures.1 in
+    rw (p.1, p.2) (inl refl)
+
+pub returns-in_err-add_vertex-clause-stop : goal.returns-in_err-add_vertex-clause-stop
+returns-in_err-add_vertex-clause-stop g c =
+    let p = err_from_is_err_and c.from_residual-in_err-add_vertex.result c.from_residual-in_err-add_vertex.ensures.1 in
+    rw (p.1, p.2) (inl refl)
+
+pub returns-in_err-new-clause-stop : goal.returns-in_err-new-clause-stop
+returns-in_err-new-clause-stop g c =
+    let p = err_from_is_err_and c.from_residual-in_err-new.result c.from_residual-in_err-new.ensures.1 in
+    rw (p.1, p.2) (inl refl)
+
+pub returns-clause-one : goal.returns-clause-one
+returns-clause-one g c = ap length c.in_ok-known.ensures.items

@@ -1,4 +1,4 @@
-use Rattle.std.proofs.Common.{rules, ℕ, ◌*◌, ◌<◌, ◌≤◌, ◌≡◌, ◌++◌, ◌∙◌, Result, Ok, Err, All, drop, length, map, sym, ap, subst, get_or, arith}
+use Rattle.std.proofs.Common.{rules, ℕ, ◌*◌, ◌<◌, ◌≤◌, ◌≡◌, ◌++◌, ◌∙◌, Result, Ok, Err, All, drop, length, sym, ap, subst, get_or, arith}
 use Rattle.std.specs.Prelude.{slice_index}
 use Rattle.std.specs.Result.{IsErrAnd}
 use Rattle.std.proofs.lemmas.List.{take-append-le, take_all}
@@ -11,7 +11,7 @@ use Rattle.pure_payoffs.specs.Stops.{all_values_fit, node_values}
 use Rattle.enumpure_trees.specs.Choices.{numbered_choice, whole_choices}
 use Rattle.enumpure_trees.specs.PassingStops.{values_in}
 use Rattle.enumpure_trees.specs.Told.{at_choice}
-use Rattle.enumpure_trees.specs.Values.{value_at, value_count, value_steps}
+use Rattle.enumpure_trees.specs.Values.{value_count, value_steps}
 use Rattle.enumpure_trees.specs.declared.stop.ChoiceStop.{ChoiceStop}
 use Rattle.enumpure_trees.specs.declared.stop.ChoiceStop.TheVariants as stops
 use Rattle.enumpure_trees.proofs.ChoiceNumberLemmas.{actions-are, chosen-is}
@@ -19,7 +19,7 @@ use Rattle.game_theory.proofs.PlayerSetLemmas.{player_sets-within}
 use Rattle.game_theory.specs.OwnSets.{action_counts}
 use Rattle.enumpure_trees.proofs.WholeChoiceLemmas.{few_choices, some_actions}
 use Rattle.enumpure_trees.proofs.ValueCountLemmas.{counts-few, nodes-few}
-use Rattle.enumpure_trees.proofs.ValueListLemmas.{choice_fits, choice_stops, first_indices-all, values-push}
+use Rattle.enumpure_trees.proofs.ValueListLemmas.{choice_fits, choice_stops, first_indices-all, first_values-all, values-push}
 use Rattle.enumpure_trees.proofs.values.choice_values.Goals as goal
 use Rattle.enumpure_trees.proofs.values.choice_values.Goals.{After-deref-in-loop-choice-2, In-loop-choice}
 
@@ -123,7 +123,7 @@ pub returns-clause-values : goal.returns-clause-values
 returns-clause-values c =
     let t = game_of_tree c.args.tree.now in
     let all : whole_choices t ≤ c.loop-choice.choice = omega (arith, c.loop-choice-test.false, c.in_ok-choices.ensures.choices) in
-    c.loop-choice.invariant.values ∙ ap (map (value_at t)) (first_indices-all t c.args.nodes.now c.loop-choice.choice all)
+    c.loop-choice.invariant.values ∙ first_values-all t c.args.nodes.now c.loop-choice.choice all
 
 pub returns-clause-stop : goal.returns-clause-stop
 returns-clause-stop c =

@@ -1,8 +1,8 @@
-use Rattle.std.proofs.Common.{◌≡◌, All, length, map}
+use Rattle.std.proofs.Common.{◌≡◌, All, length}
 use Rattle.frac128.specs.FirstUnfit.{StepsFit}
 use Rattle.game_core.specs.TreeGame.{game_of_tree}
-use Rattle.enumpure_trees.specs.Values.{value_at, value_steps}
-use Rattle.enumpure_trees.proofs.ValueListLemmas.{first_indices}
+use Rattle.enumpure_trees.specs.Values.{value_steps}
+use Rattle.enumpure_trees.proofs.ValueListLemmas.{first_indices, first_values}
 use Rattle.enumpure_trees.proofs.values.choice_values.Given as goal
 
 -- the values of the choices so far, whose steps all fit
@@ -11,6 +11,6 @@ invariant-loop-choice l = record {
   tree : l.shortcuts ≡ l.tree;
   digits : length l.profile.items ≡ length l.counts;
   long : length l.actions.items ≡ length l.tree.sets;
-  values : l.values.items ≡ map (value_at (game_of_tree l.tree)) (first_indices (game_of_tree l.tree) l.nodes l.choice);
+  values : l.values.items ≡ first_values (game_of_tree l.tree) l.nodes l.choice;
   fit : All (StepsFit (value_steps (game_of_tree l.tree))) (first_indices (game_of_tree l.tree) l.nodes l.choice);
 }

@@ -12,6 +12,6 @@ abbrev pub invariant-loop-player : goal.invariant-loop-player
 invariant-loop-player l =
     record {
       keep : KeepShortcuts (game_of l.self) (choice_of l.self) l.entries;
-      values : l.values.items ≡ l.initial.values.items ++ listed l.player (λ i. value (game_of l.self) (pure (choice_of l.self)) i l.node);
-      fit : All (StepsFit (λ i. steps_at (game_of l.self) (choice_of l.self) i l.node)) (take l.player (range_with_len 0 (length l.self.tree.now.players)));
+      values : l.values.items ≡ l.initial.values.items ++ listed l.player-counter (λ i. value (game_of l.self) (pure (choice_of l.self)) i l.node);
+      fit : All (StepsFit (λ i. steps_at (game_of l.self) (choice_of l.self) i l.node)) (take l.player-counter (range_with_len 0 (length l.self.tree.now.players)));
     }

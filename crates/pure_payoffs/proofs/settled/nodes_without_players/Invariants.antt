@@ -1,6 +1,6 @@
 use Rattle.game_core.specs.TreeGame.{game_of_tree}
 use Rattle.pure_payoffs.proofs.IdleNodeLemmas.{AreFirstWithoutPlayers}
-use Rattle.pure_payoffs.proofs.settled.nodes_of_chance.Given as goal
+use Rattle.pure_payoffs.proofs.settled.nodes_without_players.Given as goal
 
 -- the idle nodes so far
 abbrev pub invariant-loop-node : goal.invariant-loop-node
