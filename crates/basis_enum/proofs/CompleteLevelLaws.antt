@@ -56,11 +56,11 @@ pub held_start : (s : LinearSystem) (n : WholeTableau) → IsSystem s → IsEnum
 held_start s n h e t st = let f = feasible s h e in record { is_tableau = t; reached = alike_reached 129 (system_of s) (system_of s) (tableau n) f st.fractions (start_reached 129 (system_of s) f); starts = st.starts; rated = st.rated ∙ e.rated }
 
 -- the lexicographic row, in the start's words and in the tableau's
-row_of_start : (s : LinearSystem) (t : WholeTableau) (c r : ℕ) → Held s t → IsLeavingRow t c r → IsLexicographicRow (length s.basics) (length s.basics) (variable_at s.basics) (tableau t) c r
-row_of_start s t c r h x = subst (λ m. IsLexicographicRow m m (variable_at s.basics) (tableau t) c r) h.rated (subst (λ b. IsLexicographicRow t.rated t.rated (variable_at b) (tableau t) c r) h.starts x)
+row_of_start : (s : LinearSystem) (t : WholeTableau) (c r : ℕ) → Held s t → IsLeavingRow t c r → IsLexicographicRow (length s.basics) (variable_at s.basics) (tableau t) c r
+row_of_start s t c r h x = subst (λ m. IsLexicographicRow m (variable_at s.basics) (tableau t) c r) h.rated (subst (λ b. IsLexicographicRow t.rated (variable_at b) (tableau t) c r) h.starts x)
 
-row_of_tableau : (s : LinearSystem) (t : WholeTableau) (c r : ℕ) → Held s t → IsLexicographicRow (length s.basics) (length s.basics) (variable_at s.basics) (tableau t) c r → IsLeavingRow t c r
-row_of_tableau s t c r h x = subst (λ b. IsLexicographicRow t.rated t.rated (variable_at b) (tableau t) c r) (sym h.starts) (subst (λ m. IsLexicographicRow m m (variable_at s.basics) (tableau t) c r) (sym h.rated) x)
+row_of_tableau : (s : LinearSystem) (t : WholeTableau) (c r : ℕ) → Held s t → IsLexicographicRow (length s.basics) (variable_at s.basics) (tableau t) c r → IsLeavingRow t c r
+row_of_tableau s t c r h x = subst (λ b. IsLexicographicRow t.rated (variable_at b) (tableau t) c r) (sym h.starts) (subst (λ m. IsLexicographicRow m (variable_at s.basics) (tableau t) c r) (sym h.rated) x)
 
 pub held_child : (s : LinearSystem) (t n : WholeTableau) (r c : ℕ) → IsSystem s → IsEnumerable s → Held s t → c < length t.nonbasics → IsLeavingRow t c r → IsTableau n → IsPivotOf t r c n → Held s n
 held_child s t n r c h e p hc x nt q =
@@ -196,7 +196,7 @@ closed s ts h e z = record { to = to }
       | inr b ↦ (let m = pivot_numbered z.levels.level t c r b hc x in elim (contains_or (bases_of (z.levels.before ++ z.levels.level)) (neighbour_of t r c)) [ inl there ↦ there | inr away ↦ (let w = z.none.all _ m.0 (λ k. away (subst (Contains (bases_of (z.levels.before ++ z.levels.level))) m.1 k)) in absurd (omega (arith, w.1))) ])
     ])
 
-    to : (k : ℕ) → k < length ts → (r c : ℕ) → c < length s.nonbasics → IsLexicographicRow (length s.basics) (length s.basics) (variable_at s.basics) (tableau (get_or ts k no_tableau)) c r → HasNeighbour (length ts) (λ k. tableau (get_or ts k no_tableau)) (tableau (get_or ts k no_tableau)) r c
+    to : (k : ℕ) → k < length ts → (r c : ℕ) → c < length s.nonbasics → IsLexicographicRow (length s.basics) (variable_at s.basics) (tableau (get_or ts k no_tableau)) c r → HasNeighbour (length ts) (λ k. tableau (get_or ts k no_tableau)) (tableau (get_or ts k no_tableau)) r c
     to k hk r c hc x =
         let t = get_or ts k no_tableau in
         let ct : Contains ts t = Contains-get_or ts k no_tableau hk in

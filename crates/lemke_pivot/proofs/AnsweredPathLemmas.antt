@@ -21,7 +21,7 @@ use Rattle.lemke_pivot.proofs.ProblemPathLemmas.{keys, least_row, leaving_row, n
 
 module _ (n r : ℕ) (m : WholeTableau) (start : IsPathStart n r m) where
   -- where z0 is not 0, the variable that is next has a column, and some row leaves
-  walk_goes_on : (t : WholeTableau) (c now step : ℕ) → OnWalk n r m t c 0 now step → basic_solution (tableau t) (z0_of n) ≢ zero_ℚ → (column : ℕ) × (row : ℕ) × IsIndexOf t.nonbasics c (Some column) × IsLexicographicRow n n w_of (tableau t) column row
+  walk_goes_on : (t : WholeTableau) (c now step : ℕ) → OnWalk n r m t c 0 now step → basic_solution (tableau t) (z0_of n) ≢ zero_ℚ → (column : ℕ) × (row : ℕ) × IsIndexOf t.nonbasics c (Some column) × IsLexicographicRow n w_of (tableau t) column row
   walk_goes_on t c now step o ne =
       let path = path_of_numbers n r m start.matrix start.right start.alike start.first.is_least.within o.earlier t c o.path in
       let next = next_is_out n start.matrix start.right r start.first (map tableau o.earlier) (tableau t) c path ne in

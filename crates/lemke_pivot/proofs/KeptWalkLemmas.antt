@@ -86,18 +86,18 @@ module _ (n r : ℕ) (m : WholeTableau) (S : IsPathStart n r m) where
       walk_variable i h = basic_is_variable n S.matrix S.right r S.first (map tableau o.earlier) (tableau t) c i path ne (subst (λ k. i < k) (sym rows_are) h)
 
       -- the row that the tableau finds is the path's
-      pub walk_best : (t₁ : WholeTableau) (column row : ℕ) → t₁ ≡ t → IsLeavingRow t₁ column row → IsLexicographicRow n n w_of (tableau t) column row
+      pub walk_best : (t₁ : WholeTableau) (column row : ℕ) → t₁ ≡ t → IsLeavingRow t₁ column row → IsLexicographicRow n w_of (tableau t) column row
       walk_best t₁ column row e B =
           let L : IsLeavingRow t column row = subst (λ m. IsLeavingRow m column row) e B in
           lex_row_by n n (variable_at t.starts) w_of (tableau t) column row (λ q h. ap (λ s. get_or s q 0) o.starts ∙ S.starts q h)
-          (subst (λ k. IsLexicographicRow k k (variable_at t.starts) (tableau t) column row) o.rated L)
+          (subst (λ k. IsLexicographicRow k (variable_at t.starts) (tableau t) column row) o.rated L)
 
       pub walk_never : (t₁ : WholeTableau) (column : ℕ) → t₁ ≡ t → IsIndexOf t.nonbasics c (Some column) → IsRatioRow t₁ column None → ⊥
       walk_never t₁ column e h none =
           let w = leaving_row n S.matrix S.right r S.first (map tableau o.earlier) (tableau t) c column S.excludes_rays path ne h.0 h.1 in
           not_lt_of_le ((tableau t).cell w.0 column) zero_ℚ (subst (λ m. IsRatioRow m column None) e none w.0 (subst (λ k. w.0 < k) (sym o.rated) w.1.within)) w.1.positive
 
-      module _ (column row : ℕ) (h : IsIndexOf t.nonbasics c (Some column)) (L : IsLexicographicRow n n w_of (tableau t) column row) where
+      module _ (column row : ℕ) (h : IsIndexOf t.nonbasics c (Some column)) (L : IsLexicographicRow n w_of (tableau t) column row) where
         pub walk_next : (t' : WholeTableau) (c' later number : ℕ) → IsFittingPivot t row column t' → c' ≡ complement n ((tableau t).basic row) → later ≡ now + 1 → number ≡ pivot_number (suc (suc (length o.earlier))) → OnWalk n r m t' c' from later number
         walk_next t' c' later number p q g k =
             record {

@@ -28,12 +28,12 @@ least_once n b r s h k = elim (cases_lt r s) [
 
 -- ---- one pivot
 -- where a variable enters
-module _ (n : ℕ) (s : WholeTableau) (v : IsTableau s) (c i j k l : ℕ) (hi : i < (tableau s).width) (hj : j < (tableau s).width) (ei : (tableau s).nonbasic i ≡ c) (ej : (tableau s).nonbasic j ≡ c) (rk : IsLexicographicRow n n w_of (tableau s) i k) (rl : IsLexicographicRow n n w_of (tableau s) j l) where
+module _ (n : ℕ) (s : WholeTableau) (v : IsTableau s) (c i j k l : ℕ) (hi : i < (tableau s).width) (hj : j < (tableau s).width) (ei : (tableau s).nonbasic i ≡ c) (ej : (tableau s).nonbasic j ≡ c) (rk : IsLexicographicRow n w_of (tableau s) i k) (rl : IsLexicographicRow n w_of (tableau s) j l) where
   same_column : i ≡ j
   same_column = v.reached.reached.proper.nonbasic_once i j hi hj (ei ∙ sym ej)
 
   same_row : k ≡ l
-  same_row = lex_row_once n w_of (tableau s) j k l (subst (λ x. IsLexicographicRow n n w_of (tableau s) x k) same_column rk) rl
+  same_row = lex_row_once n w_of (tableau s) j k l (subst (λ x. IsLexicographicRow n w_of (tableau s) x k) same_column rk) rl
 
 module _ (n : ℕ) (s : WholeTableau) (v : IsTableau s) (c l k : ℕ) (t u : WholeTableau) (p : ReplacesExactly n s c l t) (q : ReplacesExactly n s c k u) where
   column_is : p.replaces.column ≡ q.replaces.column
@@ -130,7 +130,7 @@ module _ (m : WholeTableau) (n r : ℕ) where
       let s = path_same ss us t u stop.entering last.entering a.path b.path q in
       let nonbasic : (tableau u).nonbasic a.column ≡ last.entering = sym (ap (λ (x : WholeTableau). (tableau x).nonbasic a.column) s.0) ∙ a.entering_is ∙ s.1 in
       let column_in : a.column < (tableau u).width = subst (λ x. a.column < (tableau x).width) s.0 a.column_in in
-      let chosen : IsLexicographicRow n n w_of (tableau u) a.column a.row = subst (λ x. IsLexicographicRow n n w_of (tableau x) a.column a.row) s.0 a.chosen in
+      let chosen : IsLexicographicRow n w_of (tableau u) a.column a.row = subst (λ x. IsLexicographicRow n w_of (tableau x) a.column a.row) s.0 a.chosen in
       let column = same_column n u (valid_at us u last.entering b.path) last.entering a.column b.column a.row b.row column_in b.column_in nonbasic b.entering_is chosen b.chosen in
       let row = same_row n u (valid_at us u last.entering b.path) last.entering a.column b.column a.row b.row column_in b.column_in nonbasic b.entering_is chosen b.chosen in
       let here : IsFirstUnfit (steps_of_pivot u b.row b.column) stop.unfit = subst₂ (λ x y. IsFirstUnfit (steps_of_pivot u x y) stop.unfit) row column (subst (λ x. IsFirstUnfit (steps_of_pivot x a.row a.column) stop.unfit) s.0 a.unfit) in

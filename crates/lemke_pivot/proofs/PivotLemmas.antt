@@ -41,7 +41,7 @@ module _ (t : Tableau) (r c : ℕ) where
       go (inr n) (inr m) = rest n m (is_basic t v) refl ∙ sym (swap_other (is_basic t) (t.nonbasic c) (t.basic r) v n m)
 
 -- entering the variable that left leads back
-pub undone : (n : ℕ) (b : ℕ → ℕ) (t : Tableau) (c r : ℕ) → c < t.width → IsLexicographicRow n n b t c r → ((i : ℕ) → i < n → IsLexPositive (suc n) (key b t i)) → IsLexicographicRow n n b (pivot t r c) c r
+pub undone : (n : ℕ) (b : ℕ → ℕ) (t : Tableau) (c r : ℕ) → c < t.width → IsLexicographicRow n b t c r → ((i : ℕ) → i < n → IsLexPositive (suc n) (key b t i)) → IsLexicographicRow n b (pivot t r c) c r
 undone n b t c r hc L p =
     record {
       within = L.within;
@@ -64,7 +64,7 @@ undone n b t c r hc L p =
         }
 
 -- reached tableaux with the same basic variables choose the same variable to leave
-pub same_leaves : (N n : ℕ) (start t s : Tableau) (b : ℕ → ℕ) → start.rows ≡ n → IsStart N n start → IsRowEquivalent N n start t → IsRowEquivalent N n start s → ((v : ℕ) → is_basic t v ≡ is_basic s v) → (c d r q : ℕ) → c < t.width → d < s.width → t.nonbasic c ≡ s.nonbasic d → IsLexicographicRow n n b t c r → IsLexicographicRow n n b s d q → t.basic r ≡ s.basic q
+pub same_leaves : (N n : ℕ) (start t s : Tableau) (b : ℕ → ℕ) → start.rows ≡ n → IsStart N n start → IsRowEquivalent N n start t → IsRowEquivalent N n start s → ((v : ℕ) → is_basic t v ≡ is_basic s v) → (c d r q : ℕ) → c < t.width → d < s.width → t.nonbasic c ≡ s.nonbasic d → IsLexicographicRow n b t c r → IsLexicographicRow n b s d q → t.basic r ≡ s.basic q
 same_leaves N n start t s b all st R S same c d r q hc hd e L K = go (cases_eq k q)
   where
     t_rows : t.rows ≡ n

@@ -108,7 +108,7 @@ module _ (n : ℕ) (M : ℕ → ℕ → ℚ) (b : ℕ → ℚ) (r : ℕ) (fr : I
   pub in_ray : (ss : List Tableau) (t : Tableau) (c column : ℕ) → PathTo n M b r ss t c → basic_solution t (z0_of n) ≢ zero_ℚ → column < t.width → t.nonbasic column ≡ c → ((i : ℕ) → i < n → t.cell i column ≤ℚ zero_ℚ) → IsRayAt n M b t column
   in_ray ss t c column p ne hc e none = let w = on_path ss t c (goes_on ss t c p ne) in path_ray n M b r fr t c column (map is_basic ss) w.0 w.1 hc e none (above t w.1 ne)
 
-  pub leaving_row : (ss : List Tableau) (t : Tableau) (c column : ℕ) → ExcludesRays n M b → PathTo n M b r ss t c → basic_solution t (z0_of n) ≢ zero_ℚ → column < t.width → t.nonbasic column ≡ c → (row : ℕ) × IsLexicographicRow n n w_of t column row
+  pub leaving_row : (ss : List Tableau) (t : Tableau) (c column : ℕ) → ExcludesRays n M b → PathTo n M b r ss t c → basic_solution t (z0_of n) ≢ zero_ℚ → column < t.width → t.nonbasic column ≡ c → (row : ℕ) × IsLexicographicRow n w_of t column row
   leaving_row ss t c column cop p ne hc e = let w = on_path ss t c (goes_on ss t c p ne) in
       elim (lex_row_is (suc (suc (n + n))) n (start n M b) t column (is_start n M b) w.1.reached) [
         | inl none ↦ absurd (path_goes_on n M b r fr t c column (map is_basic ss) cop w.0 w.1 hc e (above t w.1 ne) none)
@@ -183,7 +183,7 @@ paths_are_unique n M b r (s ∷ ss) (s' ∷ ss') t t' c c' fr p q e = step (path
         column = R.reached.proper.nonbasic_once p.4.column q.4.column p.4.column_in q_in (p.4.c_is ∙ w.1 ∙ sym q.4.c_is ∙ sym (w.0.nonbasic q.4.column q_in))
 
         row : p.4.row ≡ q.4.row
-        row = lex_row_once n w_of s p.4.column p.4.row q.4.row p.4.chosen (subst (λ j. IsLexicographicRow n n w_of s j q.4.row) (sym column) (alike_lex_row n n w_of s' s q.4.column q.4.row (let k : s'.rows ≡ n = R'.reached.rows in omega arith) q.4.column_in from q.4.chosen))
+        row = lex_row_once n w_of s p.4.column p.4.row q.4.row p.4.chosen (subst (λ j. IsLexicographicRow n w_of s j q.4.row) (sym column) (alike_lex_row n n w_of s' s q.4.column q.4.row (let k : s'.rows ≡ n = R'.reached.rows in omega arith) q.4.column_in from q.4.chosen))
 
         leaves : p.1 ≡ q.1
         leaves = sym p.4.l_is ∙ w.0.basic p.4.row row_is ∙ ap s'.basic row ∙ q.4.l_is

@@ -47,7 +47,7 @@ pub record StopsAt (m : WholeTableau) (n r : ℕ) (stop : UnfitPivot)
   pub row : ℕ
   pub column_in : column < (tableau t).width
   pub entering_is : (tableau t).nonbasic column ≡ stop.entering
-  pub chosen : IsLexicographicRow n n w_of (tableau t) column row
+  pub chosen : IsLexicographicRow n w_of (tableau t) column row
   pub unfit : IsFirstUnfit (steps_of_pivot t row column) stop.unfit
   pub number : stop.number ≡ pivot_number (suc (suc (length earlier)))
 

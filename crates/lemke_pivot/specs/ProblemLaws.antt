@@ -72,7 +72,7 @@ AlwaysALeavingRow =
     HasFlow rows → HasFlow columns → CostSumsAreNotNegative s
     → IsFirstRow (size s) (right_sides s) r → PathTo (size s) (matrix s) (right_sides s) r ss t c
     → basic_solution t (z0_of (size s)) ≢ zero_ℚ → column < t.width → t.nonbasic column ≡ c
-    → (row : ℕ) × IsLexicographicRow (size s) (size s) w_of t column row
+    → (row : ℕ) × IsLexicographicRow (size s) w_of t column row
 
 -- a row of least right side has a negative one
 abbrev pub LeastIsNegative : Type 0

@@ -58,7 +58,7 @@ pub record Replaces (n : ℕ) (t : Tableau) (c l : ℕ) (t' : Tableau) : Type 0 
   pub column_in : column < t.width
   pub c_is : t.nonbasic column ≡ c
   pub l_is : t.basic row ≡ l
-  pub chosen : IsLexicographicRow n n w_of t column row
+  pub chosen : IsLexicographicRow n w_of t column row
   pub to : Alike (pivot t row column) t'
 
 -- The path has come to t, and c is next. The list has the tableaux after the first pivot and before

@@ -5,7 +5,7 @@ use Rattle.std.specs.declared.cmp.Ordering.TheVariants.{Less, Equal, Greater}
 use Rattle.rational.specs.Rational.{ℚ, ◌*ℚ◌, inv_ℚ, zero_ℚ, ◌≤ℚ◌, ◌<ℚ◌}
 use Rattle.linear_systems.specs.Tableau.{Tableau}
 use Rattle.linear_systems.specs.Lex.{IsLexLess, IsLexPositive}
-use Rattle.linear_systems.specs.Rows.{key, HasDistinctVariables, IsLexicographicRow}
+use Rattle.linear_systems.specs.Rows.{key, HasDistinctVariables, IsLexicographicRow, IsLexicographicRowAmong}
 use Rattle.lex_tableau.specs.Rows.{WholeTableau, tableau, tableau_of}
 
 -- the variables of a list, one after the other
@@ -32,12 +32,12 @@ LexCompares n f g Greater = IsLexLess n g f
 abbrev pub IsBest : ℕ → ℕ → List ℕ → Tableau → ℕ → Option ℕ → Type 0
 IsBest k m starts t c o =
     MatchOption o ((i : ℕ) → i < k → t.cell i c ≤ℚ zero_ℚ)
-    (λ r. IsLexicographicRow k m (variable_at starts) t c r)
+    (λ r. IsLexicographicRowAmong k m (variable_at starts) t c r)
 
 -- the rated row that leaves where a column enters: the lexicographic one
 abbrev pub IsLeavingRow : WholeTableau → ℕ → ℕ → Type 0
 IsLeavingRow n col row =
-    IsLexicographicRow n.rated n.rated (variable_at n.starts) (tableau n) col row
+    IsLexicographicRow n.rated (variable_at n.starts) (tableau n) col row
 
 -- the row that leaves where a column enters, or none where no rated row has a positive entry there
 abbrev pub IsRatioRow : WholeTableau → ℕ → Option ℕ → Type 0

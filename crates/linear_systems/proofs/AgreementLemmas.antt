@@ -3,7 +3,7 @@ use Rattle.std.proofs.Common.{ℕ, ◌<◌, ◌≤◌, ◌≡◌, eqb, cond, tru
 use Rattle.rational.specs.Rational.{◌*ℚ◌, ◌-ℚ◌, neg_ℚ, inv_ℚ, zero_ℚ, ◌<ℚ◌}
 use Rattle.rational.specs.Sum.{change}
 use Rattle.linear_systems.specs.Tableau.{Tableau, pivot}
-use Rattle.linear_systems.specs.Rows.{Alike, HasDistinctVariables, IsLexicographicRow}
+use Rattle.linear_systems.specs.Rows.{Alike, HasDistinctVariables, IsLexicographicRowAmong}
 use Rattle.linear_systems.proofs.LexLemmas.{lex_same}
 use Rattle.linear_systems.proofs.RowLemmas.{key_alike}
 
@@ -51,7 +51,7 @@ alike_pivot t u r c hr hc a =
       right = λ i h. ap₂ (λ x y. cond (eqb i r) x y) (ap₂ (λ x y. x *ℚ y) (a.right r hr) q) (ap₂ (λ x y. x -ℚ y) (a.right i h) (ap₂ (λ x y. x *ℚ y) (a.cell i c h hc) (ap₂ (λ x y. x *ℚ y) (a.right r hr) q)));
     }
 
-pub alike_lex_row : (k m : ℕ) (b : ℕ → ℕ) (t u : Tableau) (c r : ℕ) → k ≤ t.rows → c < t.width → Alike t u → IsLexicographicRow k m b t c r → IsLexicographicRow k m b u c r
+pub alike_lex_row : (k m : ℕ) (b : ℕ → ℕ) (t u : Tableau) (c r : ℕ) → k ≤ t.rows → c < t.width → Alike t u → IsLexicographicRowAmong k m b t c r → IsLexicographicRowAmong k m b u c r
 alike_lex_row k m b t u c r hk hc a l =
     let w : r < k = l.within in
     record {

@@ -141,7 +141,7 @@ covers N s (suc K) ts p st h reach shut ex = go (greatest K (suc s.rows) (λ k. 
         q : IsLexFeasible N s (ts g.place)
         q = reach g.place g.within
 
-        column : (j : ℕ) → j < s.width → reduced N (mark p) (ts g.place) (unit_at ((ts g.place).nonbasic j)) zero_ℚ <ℚ zero_ℚ → ((i : ℕ) → i < s.rows → (ts g.place).cell i j ≤ℚ zero_ℚ) ⊎ ((r : ℕ) × IsLexicographicRow s.rows s.rows s.basic (ts g.place) j r) → ⊥
+        column : (j : ℕ) → j < s.width → reduced N (mark p) (ts g.place) (unit_at ((ts g.place).nonbasic j)) zero_ℚ <ℚ zero_ℚ → ((i : ℕ) → i < s.rows → (ts g.place).cell i j ≤ℚ zero_ℚ) ⊎ ((r : ℕ) × IsLexicographicRow s.rows s.basic (ts g.place) j r) → ⊥
         column j hj neg (inl none) = lt_irrefl zero_ℚ (linear (reduced N (mark p) (ts g.place) (unit_at ((ts g.place).nonbasic j)) zero_ℚ ∷ []) ((at 0 ⟨<⟩ lit (pos 0)) ∷ (lit (pos 0) ⟨≤⟩ at 0) ∷ []) (lit (pos 0) ⟨<⟩ lit (pos 0)) (λ one z u v. omega (arith, ints)) (neg, (idle_column N s (ts g.place) (mark p) j q (marks p).nonnegative (let width : (ts g.place).width ≡ s.width = q.reached.width in omega arith) none, tt)))
         column j hj neg (inr x) = greater (shut.to g.place g.within x.0 j hj x.1)
           where

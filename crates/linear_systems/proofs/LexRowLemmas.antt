@@ -12,14 +12,14 @@ use Rattle.rational.proofs.Linear.{linear, at, lit, ◌⟨≤⟩◌, ◌⟨<⟩�
 use Rattle.rational.proofs.Field.{*ℚ-inv, le_or_lt, lt_irrefl}
 use Rattle.rational.proofs.SumLemmas.{sum_to-same, sum_to-scale}
 use Rattle.linear_systems.specs.Lex.{IsLexPositive, IsLexLess}
-use Rattle.linear_systems.specs.Rows.{unit_at, coefficient, key, row, IsLexicographicRow, Alike}
+use Rattle.linear_systems.specs.Rows.{unit_at, coefficient, key, row, IsLexicographicRow, IsLexicographicRowAmong, Alike}
 use Rattle.linear_systems.specs.RowEquivalence.{IsRowEquivalent, IsStart}
 use Rattle.linear_systems.proofs.LexLemmas.{lex_same, lex_scale, lex_kept, compare, less_trans, less_apart}
 use Rattle.linear_systems.proofs.RowLemmas.{key_same, key_other, key_alike, coefficient_row, coefficient_own, coefficient_basic}
 use Rattle.linear_systems.proofs.SpanLemmas.{spanned_is}
 
 -- ---- the pivot on the lexicographic row keeps every rated key positive
-pub keys_stay : (m : ℕ) (b : ℕ → ℕ) (t : Tableau) (c r : ℕ) → c < t.width → IsLexicographicRow m m b t c r → ((i : ℕ) → i < m → IsLexPositive (suc m) (key b t i)) → (i : ℕ) → i < m → IsLexPositive (suc m) (key b (pivot t r c) i)
+pub keys_stay : (m : ℕ) (b : ℕ → ℕ) (t : Tableau) (c r : ℕ) → c < t.width → IsLexicographicRow m b t c r → ((i : ℕ) → i < m → IsLexPositive (suc m) (key b t i)) → (i : ℕ) → i < m → IsLexPositive (suc m) (key b (pivot t r c) i)
 keys_stay m b t c r hc l keys i hi =
     let ne = ne_zero_of_pos (t.cell r c) l.positive in
     elim (cases_eq i r) [
@@ -28,7 +28,7 @@ keys_stay m b t c r hc l keys i hi =
     ]
 
 -- the same for a tableau that agrees with the pivot where it has cells
-pub keys_stay_alike : (m : ℕ) (b : ℕ → ℕ) (t u : Tableau) (c r : ℕ) → m ≤ t.rows → c < t.width → IsLexicographicRow m m b t c r → Alike (pivot t r c) u → ((i : ℕ) → i < m → IsLexPositive (suc m) (key b t i)) → (i : ℕ) → i < m → IsLexPositive (suc m) (key b u i)
+pub keys_stay_alike : (m : ℕ) (b : ℕ → ℕ) (t u : Tableau) (c r : ℕ) → m ≤ t.rows → c < t.width → IsLexicographicRow m b t c r → Alike (pivot t r c) u → ((i : ℕ) → i < m → IsLexPositive (suc m) (key b t i)) → (i : ℕ) → i < m → IsLexPositive (suc m) (key b u i)
 keys_stay_alike m b t u c r hm hc l a keys i hi =
     lex_same (suc m) _ _ (λ p _. key_alike b (pivot t r c) u i p a (omega arith)) (keys_stay m b t c r hc l keys i hi)
 
@@ -62,7 +62,7 @@ key_by : (m : ℕ) (b d : ℕ → ℕ) (t : Tableau) (i p : ℕ) → ((q : ℕ) 
 key_by m b d t i zero h l = refl
 key_by m b d t i (suc p) h l = ap (coefficient t i) (h p (omega arith))
 
-pub lex_row_by : (k m : ℕ) (b d : ℕ → ℕ) (t : Tableau) (c r : ℕ) → ((q : ℕ) → q < m → b q ≡ d q) → IsLexicographicRow k m b t c r → IsLexicographicRow k m d t c r
+pub lex_row_by : (k m : ℕ) (b d : ℕ → ℕ) (t : Tableau) (c r : ℕ) → ((q : ℕ) → q < m → b q ≡ d q) → IsLexicographicRowAmong k m b t c r → IsLexicographicRowAmong k m d t c r
 lex_row_by k m b d t c r h l =
     record {
       within = l.within;
@@ -71,7 +71,7 @@ lex_row_by k m b d t c r h l =
     }
 
 -- ---- just one
-pub lex_row_once : (m : ℕ) (b : ℕ → ℕ) (t : Tableau) (c r k : ℕ) → IsLexicographicRow m m b t c r → IsLexicographicRow m m b t c k → r ≡ k
+pub lex_row_once : (m : ℕ) (b : ℕ → ℕ) (t : Tableau) (c r k : ℕ) → IsLexicographicRow m b t c r → IsLexicographicRow m b t c k → r ≡ k
 lex_row_once m b t c r k p q =
     elim (cases_eq r k) [ inl e ↦ e | inr n ↦ absurd (less_apart (suc m) _ _ (less_trans (suc m) _ _ _ (p.least k q.within (λ e. n (sym e)) q.positive) (q.least r p.within n p.positive)) (λ j h. refl)) ]
 
@@ -79,7 +79,7 @@ lex_row_once m b t c r k p q =
 pub below_cases : (i k : ℕ) → i < suc k → (i ≡ k) ⊎ (i < k)
 below_cases i k h = eq-or-lt_of_le (le_of_suc-le-suc h)
 
-pub lex_first : (k m : ℕ) (b : ℕ → ℕ) (t : Tableau) (c : ℕ) → ((i : ℕ) → i < k → t.cell i c ≤ℚ zero_ℚ) → zero_ℚ <ℚ t.cell k c → IsLexicographicRow (suc k) m b t c k
+pub lex_first : (k m : ℕ) (b : ℕ → ℕ) (t : Tableau) (c : ℕ) → ((i : ℕ) → i < k → t.cell i c ≤ℚ zero_ℚ) → zero_ℚ <ℚ t.cell k c → IsLexicographicRowAmong (suc k) m b t c k
 lex_first k m b t c none h =
     record {
       within = omega arith;
@@ -87,7 +87,7 @@ lex_first k m b t c none h =
       least = λ i hi ne p. elim (below_cases i k hi) [ inl e ↦ absurd (ne e) | inr l ↦ absurd (lt_irrefl zero_ℚ (linear (t.cell i c ∷ []) ((at 0 ⟨≤⟩ lit (pos 0)) ∷ (lit (pos 0) ⟨<⟩ at 0) ∷ []) (lit (pos 0) ⟨<⟩ lit (pos 0)) (λ one z u v. omega (arith, ints)) (none i l, (p, tt)))) ];
     }
 
-pub lex_pass : (k m : ℕ) (b : ℕ → ℕ) (t : Tableau) (c r : ℕ) → IsLexicographicRow k m b t c r → (zero_ℚ <ℚ t.cell k c → IsLexLess (suc m) (λ p. key b t r p *ℚ inv_ℚ (t.cell r c)) (λ p. key b t k p *ℚ inv_ℚ (t.cell k c))) → IsLexicographicRow (suc k) m b t c r
+pub lex_pass : (k m : ℕ) (b : ℕ → ℕ) (t : Tableau) (c r : ℕ) → IsLexicographicRowAmong k m b t c r → (zero_ℚ <ℚ t.cell k c → IsLexLess (suc m) (λ p. key b t r p *ℚ inv_ℚ (t.cell r c)) (λ p. key b t k p *ℚ inv_ℚ (t.cell k c))) → IsLexicographicRowAmong (suc k) m b t c r
 lex_pass k m b t c r l h =
     record {
       within = (let w : r < k = l.within in omega arith);
@@ -95,7 +95,7 @@ lex_pass k m b t c r l h =
       least = λ i hi ne p. elim (below_cases i k hi) [ inl e ↦ subst (λ i. IsLexLess (suc m) (λ p. key b t r p *ℚ inv_ℚ (t.cell r c)) (λ p. key b t i p *ℚ inv_ℚ (t.cell i c))) (sym e) (h (subst (λ i. zero_ℚ <ℚ t.cell i c) e p)) | inr q ↦ l.least i q ne p ];
     }
 
-pub lex_take : (k m : ℕ) (b : ℕ → ℕ) (t : Tableau) (c r : ℕ) → IsLexicographicRow k m b t c r → zero_ℚ <ℚ t.cell k c → IsLexLess (suc m) (λ p. key b t k p *ℚ inv_ℚ (t.cell k c)) (λ p. key b t r p *ℚ inv_ℚ (t.cell r c)) → IsLexicographicRow (suc k) m b t c k
+pub lex_take : (k m : ℕ) (b : ℕ → ℕ) (t : Tableau) (c r : ℕ) → IsLexicographicRowAmong k m b t c r → zero_ℚ <ℚ t.cell k c → IsLexLess (suc m) (λ p. key b t k p *ℚ inv_ℚ (t.cell k c)) (λ p. key b t r p *ℚ inv_ℚ (t.cell r c)) → IsLexicographicRowAmong (suc k) m b t c k
 lex_take k m b t c r l h less =
     record {
       within = omega arith;
@@ -112,7 +112,7 @@ lex_take k m b t c r l h less =
 -- there is one wherever a rated entry is positive
 pub data Scan (k m : ℕ) (b : ℕ → ℕ) (t : Tableau) (c : ℕ) : Type 0 where
   none : ((i : ℕ) → i < k → t.cell i c ≤ℚ zero_ℚ) → Scan k m b t c
-  best : (r : ℕ) → IsLexicographicRow k m b t c r → Scan k m b t c
+  best : (r : ℕ) → IsLexicographicRowAmong k m b t c r → Scan k m b t c
 
 pub scan : (N k m : ℕ) (s t : Tableau) (c : ℕ) → IsStart N m s → IsRowEquivalent N m s t → k ≤ m → Scan k m s.basic t c
 scan N zero m s t c st p h = none (λ i q. absurd (omega arith))
@@ -121,7 +121,7 @@ scan N (suc k) m s t c st p h = go (scan N k m s t c st p (omega arith)) (le_or_
     quotient : ℕ → ℕ → ℚ
     quotient i p = key s.basic t i p *ℚ inv_ℚ (t.cell i c)
 
-    tie : (r : ℕ) → IsLexicographicRow k m s.basic t c r → zero_ℚ <ℚ t.cell k c → IsLexLess (suc m) (λ p. key s.basic t r p *ℚ inv_ℚ (t.cell r c)) (λ p. key s.basic t k p *ℚ inv_ℚ (t.cell k c)) ⊎ (((p : ℕ) → p < suc m → key s.basic t r p *ℚ inv_ℚ (t.cell r c) ≡ key s.basic t k p *ℚ inv_ℚ (t.cell k c)) ⊎ IsLexLess (suc m) (λ p. key s.basic t k p *ℚ inv_ℚ (t.cell k c)) (λ p. key s.basic t r p *ℚ inv_ℚ (t.cell r c))) → Scan (suc k) m s.basic t c
+    tie : (r : ℕ) → IsLexicographicRowAmong k m s.basic t c r → zero_ℚ <ℚ t.cell k c → IsLexLess (suc m) (λ p. key s.basic t r p *ℚ inv_ℚ (t.cell r c)) (λ p. key s.basic t k p *ℚ inv_ℚ (t.cell k c)) ⊎ (((p : ℕ) → p < suc m → key s.basic t r p *ℚ inv_ℚ (t.cell r c) ≡ key s.basic t k p *ℚ inv_ℚ (t.cell k c)) ⊎ IsLexLess (suc m) (λ p. key s.basic t k p *ℚ inv_ℚ (t.cell k c)) (λ p. key s.basic t r p *ℚ inv_ℚ (t.cell r c))) → Scan (suc k) m s.basic t c
     tie r l pk (inl less) = best r (lex_pass k m s.basic t c r l (λ _. less))
     tie r l pk (inr (inr less)) = best k (lex_take k m s.basic t c r l pk less)
     tie r l pk (inr (inl e)) = let w : r < k = l.within in absurd (quotients_differ N m s t r k (t.cell r c) (t.cell k c) st p (omega arith) h (omega arith) (ne_zero_of_pos (t.cell r c) l.positive) e)
@@ -132,9 +132,9 @@ scan N (suc k) m s t c st p h = go (scan N k m s t c st p (omega arith)) (le_or_
     go (best r l) (inl q) = best r (lex_pass k m s.basic t c r l (λ u. absurd (lt_irrefl zero_ℚ (linear (t.cell k c ∷ []) ((at 0 ⟨≤⟩ lit (pos 0)) ∷ (lit (pos 0) ⟨<⟩ at 0) ∷ []) (lit (pos 0) ⟨<⟩ lit (pos 0)) (λ one z u v. omega (arith, ints)) (q, (u, tt))))))
     go (best r l) (inr q) = tie r l q (compare (suc m) (λ p. key s.basic t r p *ℚ inv_ℚ (t.cell r c)) (λ p. key s.basic t k p *ℚ inv_ℚ (t.cell k c)))
 
-pub lex_row_is : (N m : ℕ) (s t : Tableau) (c : ℕ) → IsStart N m s → IsRowEquivalent N m s t → ((i : ℕ) → i < m → t.cell i c ≤ℚ zero_ℚ) ⊎ ((r : ℕ) × IsLexicographicRow m m s.basic t c r)
+pub lex_row_is : (N m : ℕ) (s t : Tableau) (c : ℕ) → IsStart N m s → IsRowEquivalent N m s t → ((i : ℕ) → i < m → t.cell i c ≤ℚ zero_ℚ) ⊎ ((r : ℕ) × IsLexicographicRow m s.basic t c r)
 lex_row_is N m s t c st p = go (scan N m m s t c st p (omega arith))
   where
-    go : Scan m m s.basic t c → ((i : ℕ) → i < m → t.cell i c ≤ℚ zero_ℚ) ⊎ ((r : ℕ) × IsLexicographicRow m m s.basic t c r)
+    go : Scan m m s.basic t c → ((i : ℕ) → i < m → t.cell i c ≤ℚ zero_ℚ) ⊎ ((r : ℕ) × IsLexicographicRow m s.basic t c r)
     go (none f) = inl f
     go (best r l) = inr (r, l)

@@ -46,7 +46,7 @@ alike_reached N s t u st a p =
     let rows : t.rows ≡ s.rows = p.reached.rows in
     record { reached = reached_alike N s.rows s t u st.start.rated a p.reached; variables = λ v h. p.variables v (stands_alike u t v (alike_sym t u a) h); keys = λ i hi. lex_same (suc s.rows) (key s.basic t i) (key s.basic u i) (λ k hk. key_alike s.basic t u i k a (omega arith)) (p.keys i hi) }
 
-pub pivot_reached : (N : ℕ) (s t u : Tableau) (r c : ℕ) → IsFeasibleStart N s → IsLexFeasible N s t → c < s.width → IsLexicographicRow s.rows s.rows s.basic t c r → Alike (pivot t r c) u → IsLexFeasible N s u
+pub pivot_reached : (N : ℕ) (s t u : Tableau) (r c : ℕ) → IsFeasibleStart N s → IsLexFeasible N s t → c < s.width → IsLexicographicRow s.rows s.basic t c r → Alike (pivot t r c) u → IsLexFeasible N s u
 pivot_reached N s t u r c st p hc x a =
     let rows : t.rows ≡ s.rows = p.reached.rows in
     let width : t.width ≡ s.width = p.reached.width in

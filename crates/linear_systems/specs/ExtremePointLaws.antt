@@ -15,7 +15,7 @@ pub record LexicographicPivotsKeepFeasibility : Type 0 where
   pub alike : (N : ℕ) (s t u : Tableau) → IsFeasibleStart N s → Alike t u → IsLexFeasible N s t
       → IsLexFeasible N s u
   pub pivot : (N : ℕ) (s t u : Tableau) (r c : ℕ) → IsFeasibleStart N s → IsLexFeasible N s t
-      → c < s.width → IsLexicographicRow s.rows s.rows s.basic t c r → Alike (pivot t r c) u
+      → c < s.width → IsLexicographicRow s.rows s.basic t c r → Alike (pivot t r c) u
       → IsLexFeasible N s u
 
 -- The basic solution of a lexicographically feasible tableau is an extreme point.

@@ -17,7 +17,7 @@ PivotKeepsSolutions =
 abbrev pub KeysStayPositive : Type 0
 KeysStayPositive =
     (m : ℕ) (b : ℕ → ℕ) (t u : Tableau) (c r : ℕ) → m ≤ t.rows → c < t.width
-    → IsLexicographicRow m m b t c r → Alike (pivot t r c) u
+    → IsLexicographicRow m b t c r → Alike (pivot t r c) u
     → ((i : ℕ) → i < m → IsLexPositive (suc m) (key b t i)) → (i : ℕ) → i < m
     → IsLexPositive (suc m) (key b u i)
 
@@ -32,9 +32,9 @@ pub record PivotsKeepRowEquivalence : Type 0 where
 -- row has a positive entry there.
 pub record LexicographicRowIsOne : Type 0 where
   pub exists : (N m : ℕ) (s t : Tableau) (c : ℕ) → IsStart N m s → IsRowEquivalent N m s t
-      → ((i : ℕ) → i < m → t.cell i c ≤ℚ zero_ℚ) ⊎ ((r : ℕ) × IsLexicographicRow m m s.basic t c r)
-  pub once : (m : ℕ) (b : ℕ → ℕ) (t : Tableau) (c r k : ℕ) → IsLexicographicRow m m b t c r
-      → IsLexicographicRow m m b t c k → r ≡ k
+      → ((i : ℕ) → i < m → t.cell i c ≤ℚ zero_ℚ) ⊎ ((r : ℕ) × IsLexicographicRow m s.basic t c r)
+  pub once : (m : ℕ) (b : ℕ → ℕ) (t : Tableau) (c r k : ℕ) → IsLexicographicRow m b t c r
+      → IsLexicographicRow m b t c k → r ≡ k
 
 -- Two tableaux that are row-equivalent to a start and have the same rated basic variables are
 -- alike, up to the order of rows and columns.

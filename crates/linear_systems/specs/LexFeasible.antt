@@ -39,4 +39,4 @@ pub record HasNeighbour (K : ℕ) (ts : ℕ → Tableau) (t : Tableau) (r c : �
 -- each pivot on a lexicographic row leads from one of these K tableaux to the basis of one of them
 pub record IsClosed (s : Tableau) (K : ℕ) (ts : ℕ → Tableau) : Type 0 where
   pub to : (k : ℕ) → k < K → (r c : ℕ) → c < s.width
-      → IsLexicographicRow s.rows s.rows s.basic (ts k) c r → HasNeighbour K ts (ts k) r c
+      → IsLexicographicRow s.rows s.basic (ts k) c r → HasNeighbour K ts (ts k) r c

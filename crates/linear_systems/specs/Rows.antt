@@ -31,12 +31,16 @@ pub record HasDistinctVariables (t : Tableau) : Type 0 where
   pub apart : (i j : ℕ) → i < t.rows → j < t.width → t.basic i ≢ t.nonbasic j
 
 -- among the first k rows, row r is the lexicographic row of column c, by keys of m + 1 entries
-pub record IsLexicographicRow (k m : ℕ) (b : ℕ → ℕ) (t : Tableau) (c r : ℕ) : Type 0 where
+pub record IsLexicographicRowAmong (k m : ℕ) (b : ℕ → ℕ) (t : Tableau) (c r : ℕ) : Type 0 where
   pub within : r < k
   pub positive : zero_ℚ <ℚ t.cell r c
   pub least : (i : ℕ) → i < k → i ≢ r → zero_ℚ <ℚ t.cell i c
       → IsLexLess (suc m) (λ p. key b t r p *ℚ inv_ℚ (t.cell r c))
       (λ p. key b t i p *ℚ inv_ℚ (t.cell i c))
+
+-- row r is the lexicographic row of column c, where the first m rows are rated
+abbrev pub IsLexicographicRow : ℕ → (ℕ → ℕ) → Tableau → ℕ → ℕ → Type 0
+IsLexicographicRow m b t c r = IsLexicographicRowAmong m m b t c r
 
 -- two tableaux that agree wherever they have cells
 pub record Alike (t u : Tableau) : Type 0 where

@@ -7,7 +7,8 @@
 //! Definitions: `specs::LineChecks` has the verdicts of lines (`table_check`, `tree_check`),
 //! `Lines` the texts of all lines, one after another, `Texts` the texts of verdicts, `CheckLaws`
 //! what these say of equilibria.
-//! A change here touches: the text of `check`, byte for byte, and its refusals.
+//! A change here touches: `gambit_tools` and `refusals`: the text of `check`, byte for byte, and its
+//! refusals.
 #![tactic(auto)]
 
 mod kept_text;

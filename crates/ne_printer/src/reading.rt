@@ -48,7 +48,7 @@ fn value(digits: &[u8]) -> Option<u128>
 }
 
 // Whether all are digits.
-fn are_digits(text: &[u8]) -> bool
+fn all_digits(text: &[u8]) -> bool
     ensures { result ≡ list_all is_ascii_digit text.now }
 {
     text.iter().all(|b| b.is_ascii_digit())
@@ -59,7 +59,7 @@ fn are_digits(text: &[u8]) -> bool
 fn is_numeral(text: &[u8]) -> bool
     ensures { IsTrue result ↔ IsShortNumeral text.now }
 {
-    !text.is_empty() && text.len() <= 39 && are_digits(text)
+    !text.is_empty() && text.len() <= 39 && all_digits(text)
 }
 
 // The number that a text is.

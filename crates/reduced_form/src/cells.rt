@@ -57,10 +57,8 @@ fn push_cells(
         (refused_by (at_profile number) (payoffs_fit (game_of play.now) (choice_of play.now)))
         result }
 {
-    match play.push_payoffs(shortcuts, payoffs) {
-        Ok(()) => Ok(()),
-        Err(stop) => Err(at_profile(number, stop)),
-    }
+    play.push_payoffs(shortcuts, payoffs)
+        .map_err(|stop| at_profile(number, stop))
 }
 
 /// What each profile pays each player, profiles in file order. `places` has each set's place among

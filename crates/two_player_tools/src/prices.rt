@@ -24,13 +24,10 @@ fn value(price: Frac, least: Frac) -> Result<Frac, Refusal>
     ensures stage { refuse_where (¬ (AddFits price least))
         (Refusal.Range Site.Value (step_of Op.Add price least)) (map_ok result (λ _. tt)) }
 {
-    match price.add(least) {
-        Ok(value) => Ok(value),
-        Err(unfit) => Err(Refusal::Range {
-            site: Site::Value,
-            unfit,
-        }),
-    }
+    price.add(least).map_err(|unfit| Refusal::Range {
+        site: Site::Value,
+        unfit,
+    })
 }
 
 // The prices of player one: that of the whole game, and then those of the player's sets, which are

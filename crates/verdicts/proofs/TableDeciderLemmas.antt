@@ -7,7 +7,7 @@ use Rattle.rational.specs.Rational.{ℚ, one_ℚ}
 use Rattle.game_theory.specs.Mixed.{Mixed}
 use Rattle.game_core.specs.Table.{GameTable, IsTable, strategy_counts}
 use Rattle.behaviour_profile.specs.EntryTests.{mixed_of}
-use Rattle.verdicts.specs.TableReplies.{AreDeciders, IsNextDecider, decider_at, player_after}
+use Rattle.verdicts.specs.TableReplies.{AreDeciders, IsNextDecider, decider_at, most_listed, player_after}
 use Rattle.verdicts.specs.declared.tables.Decider.{Decider}
 use Rattle.verdicts.proofs.TablePartLemmas.{entries-next, player-within}
 
@@ -64,7 +64,7 @@ module _ (t : GameTable) (valid : IsTable t) (entries : List ℚ) (listed : List
       }
 
   -- the next player is listed
-  pub decider-listed : (n : ℕ) → n ≡ get_or counts player 0 → count < 20 → count < length listed
+  pub decider-listed : (n : ℕ) → n ≡ get_or counts player 0 → count < most_listed → count < length listed
       → AreDeciders t entries (record { listed = set listed count (record { player = player; first = first }); count = count + 1; end = record { player = player + 1; first = first + n } })
   decider-listed n e few room =
       record {

@@ -14,6 +14,10 @@ use Rattle.verdicts.specs.declared.tables.Deciders.{Deciders}
 use Rattle.verdicts.specs.declared.tables.TableReplies.{TableReplies}
 
 -- ---- the players by whom weights differ or are not 1
+-- how many players are listed at most
+abbrev pub most_listed : ℕ
+most_listed = 20
+
 -- each player from j on, up to `end`, has one strategy, with the probability 1
 pub record PlayForSure (counts : List ℕ) (m : Mixed) (j end : ℕ) : Type 0 where
   pub one_strategy : (k : ℕ) → j ≤ k → k < end → slice_index counts k ≡ 1
@@ -36,7 +40,7 @@ pub record IsNextDecider (counts : List ℕ) (m : Mixed) (j : ℕ) (d : Decider)
 
 -- those who are listed follow each other, and then comes the end
 pub record AreDeciders (t : GameTable) (entries : List ℚ) (d : Deciders) : Type 0 where
-  pub few : d.count ≤ 20
+  pub few : d.count ≤ most_listed
   pub within : d.count ≤ length d.listed
   pub are_players : (n : ℕ) → n < d.count → (decider_at d.listed n).player < length t.players
   pub each : (n : ℕ) → n < d.count

@@ -13,8 +13,8 @@
 //! Lemmas for callers: `proofs::TableSingleLemmas`, that there is at most one verdict;
 //! `AlikeBehaviourLemmas`, `AlikeVerdictLemmas` and `SameEntryLemmas`, on behaviours with the same
 //! entries; `MappedErrorLemmas`, on results whose error is mapped.
-//! A change here touches: `ne_checker` and what `check` prints; `two_player_tools`, whose `lp -P`
-//! and `lcp -P` ask what a behaviour pays.
+//! A change here touches: `ne_checker`, `gambit_tools` and what `check` prints; `two_player_tools`,
+//! whose `lp -P` and `lcp -P` ask what a behaviour pays.
 #![tactic(auto)]
 
 mod mixed;

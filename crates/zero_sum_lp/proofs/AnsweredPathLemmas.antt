@@ -27,7 +27,7 @@ module _ (first : WholeTableau) (valid : IsTableau first) (starts : IsProgramSta
           found.0,
           found.1.1.0,
           subst (λ m. IsEntering m (tableau n) found.0) (sym same.1) found.1.0,
-          subst₂ (λ (m : ℕ) (ss : List ℕ). IsLexicographicRow m m (variable_at ss) (tableau n) found.0 found.1.1.0) (sym same.1) (sym same.0)
+          subst₂ (λ (m : ℕ) (ss : List ℕ). IsLexicographicRow m (variable_at ss) (tableau n) found.0 found.1.1.0) (sym same.1) (sym same.0)
               (lex_row_by first.rated first.rated (tableau first).basic (variable_at first.starts) (tableau n) found.0 found.1.1.0 (λ i l. sym (starts.basics i l)) found.1.1.1),
         )
       ]

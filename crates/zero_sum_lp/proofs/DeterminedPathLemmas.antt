@@ -56,7 +56,7 @@ step_once g t t' u u' p x y w a b =
     let hm : g.rated < g.start.rows = p.objective in
     let rl : a.row < g.rated = a.leaving.within in
     let same_c : a.column ≡ b.column = entering_once g.rated t' a.column b.column y.reached.proper (alike_entering g.rated t t' a.column (omega arith) w a.entering) b.entering in
-    let same_r : a.row ≡ b.row = lex_row_once g.rated g.start.basic t' b.column a.row b.row (subst (λ c. IsLexicographicRow g.rated g.rated g.start.basic t' c a.row) same_c (alike_lex_row g.rated g.rated g.start.basic t t' a.column a.row (omega arith) a.entering.column w a.leaving)) b.leaving in
+    let same_r : a.row ≡ b.row = lex_row_once g.rated g.start.basic t' b.column a.row b.row (subst (λ c. IsLexicographicRow g.rated g.start.basic t' c a.row) same_c (alike_lex_row g.rated g.rated g.start.basic t t' a.column a.row (omega arith) a.entering.column w a.leaving)) b.leaving in
     alike_both (pivot t a.row a.column) u u' a.turned (alike_trans (pivot t a.row a.column) (pivot t' a.row a.column) u' (alike_pivot t t' a.row a.column (omega arith) a.entering.column w) (subst₂ (λ r c. Alike (pivot t' r c) u') (sym same_r) (sym same_c) b.turned))
 
 pub after_once : (g : LinearProgram) (n : ℕ) (t u : Tableau) → IsFeasibleAndBounded g → IsAfter g n t → IsAfter g n u → Alike t u
@@ -89,7 +89,7 @@ after_grows g n t u p a st =
     step_grows g.bound g.rated g.rated g.start t u st.column st.row p.begins (omega arith) p.objective (after_on_path g n t p a) (record { column = st.entering.column; negative = st.entering.negative; lex_row = st.leaving }) st.turned
 
 -- an entering column has its lexicographic row
-pub after_leaves : (g : LinearProgram) (n : ℕ) (t : Tableau) (c : ℕ) → IsFeasibleAndBounded g → IsAfter g n t → IsEntering g.rated t c → (r : ℕ) × IsLexicographicRow g.rated g.rated g.start.basic t c r
+pub after_leaves : (g : LinearProgram) (n : ℕ) (t : Tableau) (c : ℕ) → IsFeasibleAndBounded g → IsAfter g n t → IsEntering g.rated t c → (r : ℕ) × IsLexicographicRow g.rated g.start.basic t c r
 after_leaves g n t c p a e = leaving_row g.bound g.rated g.start t c p.begins p.objective p.bounded (after_on_path g n t p a).reached e.column e.negative
 
 -- the entering column among the first n, or none of them is negative
@@ -110,7 +110,7 @@ enters m (suc n) t h = go (enters m n t (omega arith)) (le_or_lt zero_ℚ (t.cel
     ]
 
 -- a tableau of the path is optimal or goes on
-pub after_goes_on : (g : LinearProgram) (n : ℕ) (t : Tableau) → IsFeasibleAndBounded g → IsAfter g n t → IsOptimal g.rated t ⊎ ((c : ℕ) × (IsEntering g.rated t c × ((r : ℕ) × IsLexicographicRow g.rated g.rated g.start.basic t c r)))
+pub after_goes_on : (g : LinearProgram) (n : ℕ) (t : Tableau) → IsFeasibleAndBounded g → IsAfter g n t → IsOptimal g.rated t ⊎ ((c : ℕ) × (IsEntering g.rated t c × ((r : ℕ) × IsLexicographicRow g.rated g.start.basic t c r)))
 after_goes_on g n t p a = elim (enters g.rated t.width t (omega arith)) [
   | inl f ↦ inl f
   | inr w ↦ (let e : IsEntering g.rated t w.0 = record { column = w.1.0; negative = w.1.1.0; least = w.1.1.1 } in inr (w.0, (e, after_leaves g n t w.0 p a e)))

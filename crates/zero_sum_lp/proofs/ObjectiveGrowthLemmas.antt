@@ -31,7 +31,7 @@ pub record IsLexicographicallyFeasible (N m : ℕ) (s t : Tableau) : Type 0 wher
 pub record Improves (m l : ℕ) (b : ℕ → ℕ) (t : Tableau) (c r : ℕ) : Type 0 where
   pub column : c < t.width
   pub negative : t.cell l c <ℚ zero_ℚ
-  pub lex_row : IsLexicographicRow m m b t c r
+  pub lex_row : IsLexicographicRow m b t c r
 
 -- row l of each of ts is less than that of t
 abbrev pub AllLess : ℕ → ℕ → (ℕ → ℕ) → Tableau → List Tableau → Type 0

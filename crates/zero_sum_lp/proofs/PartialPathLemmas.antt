@@ -16,7 +16,7 @@ pub record IsUnderway (g : LinearProgram) (t : Tableau) (first pivots : ℕ) : T
 pub underway_start : (g : LinearProgram) (t : Tableau) (n : ℕ) → IsLexicographicallyFeasible g.bound g.rated g.start t → IsUnderway g t n n
 underway_start g t n p = record { path = p; seen = []; chain = (p.reached, (tt, tt)); count = omega arith }
 
-pub underway_step : (g : LinearProgram) (t u : Tableau) (c r first pivots : ℕ) → IsFeasibleAndBounded g → IsUnderway g t first pivots → c < t.width → t.cell g.rated c <ℚ zero_ℚ → IsLexicographicRow g.rated g.rated g.start.basic t c r → Alike (pivot t r c) u → IsUnderway g u first (pivots + 1)
+pub underway_step : (g : LinearProgram) (t u : Tableau) (c r first pivots : ℕ) → IsFeasibleAndBounded g → IsUnderway g t first pivots → c < t.width → t.cell g.rated c <ℚ zero_ℚ → IsLexicographicRow g.rated g.start.basic t c r → Alike (pivot t r c) u → IsUnderway g u first (pivots + 1)
 underway_step g t u c r first pivots p w hc neg l a =
     let i : Improves g.rated g.rated g.start.basic t c r = record { column = hc; negative = neg; lex_row = l } in
     let next : IsLexicographicallyFeasible g.bound g.rated g.start u = path_step g.bound g.rated g.rated g.start t u c r p.begins w.path i a in

@@ -40,7 +40,7 @@ leads_after first n (suc k) s w =
           column = st.column;
           row = st.row;
           entering = subst (λ m. IsEntering m (tableau w.0) st.column) b.1 st.entering;
-          leaving = lex_row_by first.rated first.rated (variable_at first.starts) (tableau first).basic (tableau w.0) st.column st.row s.basics (subst₂ (λ m starts. IsLexicographicRow m m (variable_at starts) (tableau w.0) st.column st.row) b.1 b.0 st.leaving);
+          leaving = lex_row_by first.rated first.rated (variable_at first.starts) (tableau first).basic (tableau w.0) st.column st.row s.basics (subst₂ (λ m starts. IsLexicographicRow m (variable_at starts) (tableau w.0) st.column st.row) b.1 b.0 st.leaving);
           turned = st.fitting.pivot.fractions;
         },
       ),
@@ -80,8 +80,8 @@ pub read_enters : (first now seen : WholeTableau) (past pivots number m c : ℕ)
 read_enters first now seen past pivots number m c s u em e f = found_enters first now u.count s u.path m c em (subst (λ x. IsEntering m (tableau x) c) e f)
 
 -- and the tableau that was read has its lexicographic row
-pub read_leaves : (now seen : WholeTableau) (c r : ℕ) → seen ≡ now → IsLexicographicRow seen.rated seen.rated (variable_at seen.starts) (tableau seen) c r → IsLexicographicRow now.rated now.rated (variable_at now.starts) (tableau now) c r
-read_leaves now seen c r e l = subst (λ x. IsLexicographicRow x.rated x.rated (variable_at x.starts) (tableau x) c r) e l
+pub read_leaves : (now seen : WholeTableau) (c r : ℕ) → seen ≡ now → IsLexicographicRow seen.rated (variable_at seen.starts) (tableau seen) c r → IsLexicographicRow now.rated (variable_at now.starts) (tableau now) c r
+read_leaves now seen c r e l = subst (λ x. IsLexicographicRow x.rated (variable_at x.starts) (tableau x) c r) e l
 
 pub read_end : (first now seen : WholeTableau) (past pivots number m : ℕ) → IsProgramStart first → IsUnderWay first now past pivots number → m ≡ first.rated → seen ≡ now → IsOptimal m (tableau seen) → EndsPath first now
 read_end first now seen past pivots number m s u em e f =
@@ -102,6 +102,6 @@ pub measure_falls : (a b c : ℕ) → c ≡ b + 1 → b < a → a - c < a - b
 measure_falls a b c e h = omega arith
 
 -- the pivot of a step that does not fit
-pub is_unfit : (first now : WholeTableau) (past pivots number variable c r : ℕ) (unfit : Unfit) → IsUnderWay first now past pivots number → IsEntering now.rated (tableau now) c → IsLexicographicRow now.rated now.rated (variable_at now.starts) (tableau now) c r → variable ≡ (tableau now).nonbasic c → IsFirstUnfit (steps_of_pivot now r c) unfit → IsUnfitPivot first (record { number = number; entering = variable; unfit = unfit })
+pub is_unfit : (first now : WholeTableau) (past pivots number variable c r : ℕ) (unfit : Unfit) → IsUnderWay first now past pivots number → IsEntering now.rated (tableau now) c → IsLexicographicRow now.rated (variable_at now.starts) (tableau now) c r → variable ≡ (tableau now).nonbasic c → IsFirstUnfit (steps_of_pivot now r c) unfit → IsUnfitPivot first (record { number = number; entering = variable; unfit = unfit })
 is_unfit first now past pivots number variable c r unfit u e l v f =
     record { count = u.count; before = now; path = u.path; column = c; row = r; enters = e; leaves = l; variable = v; is_number = u.is_number; first_unfit = f }

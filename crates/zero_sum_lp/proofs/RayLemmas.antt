@@ -76,9 +76,9 @@ has_ray N m s t c st hm p hc neg none_up =
     }
 
 -- where the start has no ray, an improving column has its lexicographic row
-pub leaving_row : (N m : ℕ) (s t : Tableau) (c : ℕ) → IsStart N m s → m < s.rows → (IsUnbounded m s → ⊥) → IsRowEquivalent N m s t → c < t.width → t.cell m c <ℚ zero_ℚ → (r : ℕ) × IsLexicographicRow m m s.basic t c r
+pub leaving_row : (N m : ℕ) (s t : Tableau) (c : ℕ) → IsStart N m s → m < s.rows → (IsUnbounded m s → ⊥) → IsRowEquivalent N m s t → c < t.width → t.cell m c <ℚ zero_ℚ → (r : ℕ) × IsLexicographicRow m s.basic t c r
 leaving_row N m s t c st hm bounded p hc neg = go (scan N m m s t c st p (omega arith))
   where
-    go : Scan m m s.basic t c → (r : ℕ) × IsLexicographicRow m m s.basic t c r
+    go : Scan m m s.basic t c → (r : ℕ) × IsLexicographicRow m s.basic t c r
     go (none f) = absurd (bounded (has_ray N m s t c st hm p hc neg f))
     go (best r l) = (r, l)

@@ -26,7 +26,7 @@ PathsGoOn =
     (g : LinearProgram) (n : ℕ) (t : Tableau) → IsFeasibleAndBounded g → IsAfter g n t
     → IsOptimal g.rated t
     ⊎ ((c : ℕ) × (IsEntering g.rated t c
-    × ((r : ℕ) × IsLexicographicRow g.rated g.rated g.start.basic t c r)))
+    × ((r : ℕ) × IsLexicographicRow g.rated g.start.basic t c r)))
 
 -- The path is determined: at most one tableau after each number of steps, and none after an
 -- optimal one.

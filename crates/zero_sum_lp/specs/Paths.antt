@@ -49,7 +49,7 @@ pub record IsPathPivot (g : LinearProgram) (t u : Tableau) : Type 0 where
   pub column : ℕ
   pub row : ℕ
   pub entering : IsEntering g.rated t column
-  pub leaving : IsLexicographicRow g.rated g.rated g.start.basic t column row
+  pub leaving : IsLexicographicRow g.rated g.start.basic t column row
   pub turned : Alike (pivot t row column) u
 
 -- t is the tableau after n steps of the path

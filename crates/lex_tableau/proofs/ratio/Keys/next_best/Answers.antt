@@ -1,5 +1,5 @@
 use Rattle.std.proofs.Common.{arith, subst, ◌+◌, ◌*◌, ◌≤ℤ◌, ◌<ℤ◌, pos, length}
-use Rattle.linear_systems.specs.Rows.{IsLexicographicRow}
+use Rattle.linear_systems.specs.Rows.{IsLexicographicRowAmong}
 use Rattle.whole_rows.proofs.FittingStepLemmas.{read_at}
 use Rattle.lex_tableau.specs.Keys.{tableau_in}
 use Rattle.lex_tableau.specs.Ratio.{IsBest, variable_at}
@@ -27,7 +27,7 @@ returns-in_default c =
 pub compare_rows-requires-clause-best_positive : goal.compare_rows-requires-clause-best_positive
 compare_rows-requires-clause-best_positive c =
     let n : WholeTableau = tableau_in c.args.self.now in
-    let old : IsLexicographicRow c.args.row n.rated (variable_at n.starts) (tableau n) c.args.column c.in-Some.old = subst (IsBest c.args.row n.rated n.starts (tableau n) c.args.column) c.in-Some.is c.requires.best in
+    let old : IsLexicographicRowAmong c.args.row n.rated (variable_at n.starts) (tableau n) c.args.column c.in-Some.old = subst (IsBest c.args.row n.rated n.starts (tableau n) c.args.column) c.in-Some.is c.requires.best in
     number_positive n c.in-Some.old c.args.column c.requires.keys.is_tableau (rated_in n c.in-Some.old c.requires.keys.is_tableau (omega (arith, old.within, c.requires.row_in))) old.positive
 
 pub returns-in-Less : goal.returns-in-Less

@@ -7,6 +7,7 @@ use Rattle.rational.specs.Tests.{eq_ℚ}
 use Rattle.rational.proofs.Decide.{eq_ℚ-decides}
 use Rattle.game_core.specs.Table.{strategy_counts}
 use Rattle.behaviour_profile.specs.EntryTests.{mixed_of}
+use Rattle.verdicts.specs.TableReplies.{most_listed}
 use Rattle.verdicts.proofs.TableDeciderLemmas.{decider-listed, decider-passed}
 use Rattle.verdicts.proofs.TablePartLemmas.{entries-within, some_strategy}
 use Rattle.verdicts.proofs.tables.Deciders.new.Goals as goal
@@ -40,7 +41,7 @@ loop-player-preserved c =
     let n = c.strategy_count-strategies.result in
     elim c.if-strategies-gt1.branch [
       | then-strategies-gt1+else-count-eq-MOST_LISTED w ↦
-          let few : c.loop-player.count < 20 = omega (arith, so_far.few, w.if-count-eq-MOST_LISTED.false) in
+          let few : c.loop-player.count < most_listed = omega (arith, so_far.few, w.if-count-eq-MOST_LISTED.false) in
           rw (w.listed-is, w.count-is) (record {
             room = length-set c.loop-player.listed c.loop-player.count (record { player = c.loop-player.player; first = c.loop-player.first }) ∙ room;
             listed = decider-listed c.args.table.now a.strategy_count-strategies.ensures.valid c.args.mixed.now c.loop-player.listed c.loop-player.count c.loop-player.player c.loop-player.first (is_player a) so_far n a.strategy_count-strategies.ensures.count few (omega (arith, few, room));
