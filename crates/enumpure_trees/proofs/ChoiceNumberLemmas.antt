@@ -18,7 +18,7 @@ use Rattle.enumpure_trees.proofs.WholeChoiceLemmas.{IsWholeChoice-profile}
 -- ---- what is chosen at them
 -- the choice with a number takes one of the actions at each player's set
 pub numbered-within : (t : Tree) (n s i : ℕ) → IsTree t → n < whole_choices t → s < t.sets → t.owner s ≡ Some i → numbered_choice t n s < t.actions s
-numbered-within t n s i w h l o = IsWholeChoice-profile t (profile_at (action_counts t) n) w (IsProfile-profile_at (action_counts t) n h) s i l o
+numbered-within t n s i w h l o = IsWholeChoice-profile t (profile_at (action_counts t) n) w (IsProfile-profile_at (action_counts t) n h) i s l o
 
 -- ---- a list of actions
 -- zeros, read
@@ -59,4 +59,4 @@ chosen-is t n sets counts profile written actions of_players have digits are sam
 -- and so an action at each player's set
 pub actions-are : (t : Tree) (n : ℕ) (actions : List ℕ) → IsTree t → n < whole_choices t → length actions ≡ t.sets → slice_index actions ≡ numbered_choice t n → AreActions t actions
 actions-are t n actions w l long is =
-    record { one_for_each = long; are_actions = λ s i below owned. subst (λ (f : ℕ → ℕ). f s < t.actions s) (sym is) (numbered-within t n s i w l below owned) }
+    record { one_for_each = long; are_actions = λ i s below owned. subst (λ (f : ℕ → ℕ). f s < t.actions s) (sym is) (numbered-within t n s i w l below owned) }

@@ -33,7 +33,7 @@ entries-tell t f g s i w a b e l o =
 
 -- a completed profile has an action at each player's set
 pub completed-actions : (t : Tree) (strategies : List (List (List ℕ))) (profile : List ℕ) → IsTree t → AreStrategies t strategies → IsProfile (map length strategies) profile → IsWholeChoice t (completed t strategies profile)
-completed-actions t strategies profile w a f s i l o = (first_actions-complete t strategies profile w a f s i l o).0
+completed-actions t strategies profile w a f i s l o = (first_actions-complete t strategies profile w a f s i l o).0
 
 -- two profiles never have the same line
 pub lines-tell : LinesDetermineProfiles

@@ -8,7 +8,7 @@ use Rattle.enumpure_trees.specs.Laws.{PassingAtRootIsEquilibrium, PassingInSubga
 
 -- the behaviour of a choice is valid
 valid-choice : (t : Tree) (choice : ℕ → ℕ) → IsWholeChoice t choice → IsValid t (pure choice)
-valid-choice t choice whole s i below owned = record { not_negative = λ a _. sure-not_negative (choice s) a; sum_is_one = sum_to-sure (t.actions s) (choice s) (whole s i below owned) }
+valid-choice t choice whole s i below owned = record { not_negative = λ a _. sure-not_negative (choice s) a; sum_is_one = sum_to-sure (t.actions s) (choice s) (whole i s below owned) }
 
 -- tested at the root, a choice passes where its behaviour is an equilibrium
 pub passing-equilibrium : PassingAtRootIsEquilibrium

@@ -42,7 +42,7 @@ few_choices t nodes some few = few_choices_of t nodes t.players refl some few
 -- ---- choices
 -- a profile of actions at the players' sets is a choice
 pub IsWholeChoice-profile : (t : Tree) (profile : List ℕ) → IsTree t → IsProfile (action_counts t) profile → IsWholeChoice t (choice_at (player_sets t) profile)
-IsWholeChoice-profile t profile w h s i l o = choice_at-within t.actions (player_sets t) profile s h (player_sets-has t s i w l o)
+IsWholeChoice-profile t profile w h i s l o = choice_at-within t.actions (player_sets t) profile s h (player_sets-has t s i w l o)
 
 -- the line of the choice that a profile gives is the profile's
 pub choice_line-at : (t : Tree) (profile : List ℕ) → IsProfile (action_counts t) profile → choice_line t (choice_at (player_sets t) profile) ≡ entries (action_counts t) (pure_profile profile)

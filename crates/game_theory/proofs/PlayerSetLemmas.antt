@@ -5,7 +5,7 @@ use Rattle.std.specs.List.{AllByRecursion, IsDistinct, flat_map, list_any, range
 use Rattle.std.proofs.Math.Dec.{eqb}
 use Rattle.std.proofs.lemmas.Bool.{cases_Bool, cases_eq, eqb-true}
 use Rattle.std.proofs.lemmas.Map.Steps.{length-le_from_distinct_below}
-use Rattle.game_theory.specs.Behaviour.{pure}
+use Rattle.game_theory.specs.Behaviour.{IsWholeChoice, pure}
 use Rattle.game_theory.specs.Lines.{entries, listed}
 use Rattle.game_theory.specs.Mixed.{sure, pure as pure_profile}
 use Rattle.game_theory.specs.OwnSets.{own_sets, player_sets}
@@ -112,6 +112,6 @@ IsProfile-choices t choice [] h = tt
 IsProfile-choices t choice (set ∷ sets) h = (h set (inl refl), IsProfile-choices t choice sets (λ s m. h s (inr m)))
 
 -- so are actions at the players' sets
-pub IsProfile-whole : (t : Tree) (choice : ℕ → ℕ) → ((s i : ℕ) → s < t.sets → t.owner s ≡ Some i → choice s < t.actions s) → IsProfile (map t.actions (player_sets t)) (map choice (player_sets t))
+pub IsProfile-whole : (t : Tree) (choice : ℕ → ℕ) → IsWholeChoice t choice → IsProfile (map t.actions (player_sets t)) (map choice (player_sets t))
 IsProfile-whole t choice h =
-    IsProfile-choices t choice (player_sets t) (λ s m. let p = player_sets-tell t s m in h s p.0 p.1 p.2)
+    IsProfile-choices t choice (player_sets t) (λ s m. let p = player_sets-tell t s m in h p.0 s p.1 p.2)

@@ -73,7 +73,7 @@ IsChoice t i choice = (s : ℕ) → s < t.sets → t.owner s ≡ Some i → choi
 
 -- a choice has an action of each player's set
 abbrev pub IsWholeChoice : Tree → (ℕ → ℕ) → Type 0
-IsWholeChoice t choice = (s i : ℕ) → s < t.sets → t.owner s ≡ Some i → choice s < t.actions s
+IsWholeChoice t choice = (i : ℕ) → IsChoice t i choice
 
 -- a pure reply: player i chooses one action at each own set, and the others behave as before
 abbrev pub reply : Tree → Behaviour → ℕ → (ℕ → ℕ) → Behaviour

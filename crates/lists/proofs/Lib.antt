@@ -2,7 +2,9 @@ pub mod AscendingNumberLemmas
 pub mod ChosenElementLemmas
 pub mod DeniedLemmas
 pub mod ElementLemmas
+pub mod LeastKeyLemmas
 pub mod ListedLemmas
+pub mod MappedErrorLemmas
 pub mod NumberLemmas
 pub mod OptionLemmas
 pub mod OrderLemmas

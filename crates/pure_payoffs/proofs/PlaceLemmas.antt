@@ -41,7 +41,7 @@ play-chooses t children choices h s i l o = go choices h.choices_are
   where
     go : (choices : Choices) → AreChoices t choices → chosen_by t choices s < t.actions s
     go (Reduced places strategies profile) are = (first_actions-complete t _ profile.now h.tree are.strategies_are are.is_profile s i l o).0
-    go (Actions actions) are = are.are_actions s i l o
+    go (Actions actions) are = are.are_actions i s l o
 
 module _ (t : Tree) (places : List ℕ) (strategies : List (List (List ℕ))) (profile : List ℕ) (w : IsTree t) (h : AreReduced t places strategies profile) where
   module _ (s i : ℕ) (l : s < t.sets) (o : t.owner s ≡ Some i) where

@@ -3,7 +3,6 @@ pub mod AlikeChoiceLemmas
 pub mod AlikeVerdictLemmas
 pub mod AnsweredVerdictLemmas
 pub mod FoundReplyLemmas
-pub mod MappedErrorLemmas
 pub mod SameEntryLemmas
 pub mod TableBlockLemmas
 pub mod TableDeciderLemmas

@@ -12,7 +12,7 @@
 //! Private words: `specs::TableReplies`, `TreeReplies`, `TreeBehaviours` and `TreeWeights`.
 //! Lemmas for callers: `proofs::TableSingleLemmas`, that there is at most one verdict;
 //! `AlikeBehaviourLemmas`, `AlikeVerdictLemmas` and `SameEntryLemmas`, on behaviours with the same
-//! entries; `MappedErrorLemmas`, on results whose error is mapped.
+//! entries.
 //! A change here touches: `ne_checker`, `gambit_tools` and what `check` prints; `two_player_tools`,
 //! whose `lp -P` and `lcp -P` ask what a behaviour pays.
 #![tactic(auto)]

@@ -1,6 +1,5 @@
 pub mod AnsweredLaws
 pub mod Ends
-pub mod EnteringColumns
 pub mod ExactPaths
 pub mod FormPrograms
 pub mod Parts

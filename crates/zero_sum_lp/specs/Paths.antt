@@ -29,16 +29,12 @@ pub record IsFeasibleAndBounded (g : LinearProgram) : Type 0 where
   pub feasible : (i : ℕ) → i < g.rated → zero_ℚ ≤ℚ g.start.right i
   pub bounded : IsUnbounded g.rated g.start → ⊥
 
--- column c is one of the first n, and of their nonbasic variables with a negative entry in row m
--- its variable has the least number
-pub record IsEnteringOf (m n : ℕ) (t : Tableau) (c : ℕ) : Type 0 where
-  pub column : c < n
+-- column c enters: of the nonbasic variables with a negative entry in the objective row m, its
+-- variable has the least number
+pub record IsEntering (m : ℕ) (t : Tableau) (c : ℕ) : Type 0 where
+  pub column : c < t.width
   pub negative : t.cell m c <ℚ zero_ℚ
-  pub least : (j : ℕ) → j < n → t.cell m j <ℚ zero_ℚ → t.nonbasic c ≤ t.nonbasic j
-
--- column c enters: it is that of all columns, where m is the objective row
-abbrev pub IsEntering : ℕ → Tableau → ℕ → Type 0
-IsEntering m t c = IsEnteringOf m t.width t c
+  pub least : (j : ℕ) → j < t.width → t.cell m j <ℚ zero_ℚ → t.nonbasic c ≤ t.nonbasic j
 
 -- no entry of the objective row is negative
 abbrev pub IsOptimal : ℕ → Tableau → Type 0

@@ -6,8 +6,7 @@
 //! Definitions: `specs::Paths` has linear programs and the path of the simplex method, `Programs`
 //! the program of plans, `Systems` its rows, `Plans` plans made of raw weights, `FormPrograms` what
 //! a form answers.
-//! Private words: `specs::PlanLists` and `EnteringColumns`, and the modules that make weights into
-//! plans.
+//! Private words: `specs::PlanLists`, and the modules that make weights into plans.
 //! Lemmas for callers: `proofs::ProgramAnswerLemmas`, `PathEndLemmas` and `PlanAnswerLemmas`, that
 //! there is at most one of each; `AnsweredProgramLemmas`, `AnsweredPathLemmas` and
 //! `AnsweredPlanLemmas`, that there is one.

@@ -1,9 +1,9 @@
 // The path of a linear program.
-ghost use Rattle.std.specs.Prelude.{ℕ, ◌≡◌, ◌+◌, ◌^◌, ◌<◌, ◌≤◌, suc, length, true, false, IfErr, OnOk};
-ghost use Rattle.rational.specs.Rational.{zero_ℚ, ◌≤ℚ◌, ◌<ℚ◌};
+ghost use Rattle.std.specs.Prelude.{ℕ, ◌≡◌, ◌+◌, ◌^◌, ◌<◌, ◌≤◌, ◌↔◌, length, IsTrue, IfErr, OnOk, MatchOption};
+ghost use Rattle.rational.specs.Rational.{zero_ℚ, ◌<ℚ◌};
 ghost use Rattle.lex_tableau.specs.Rows.{tableau};
 ghost use Rattle.lex_tableau.specs.Pivots.{pivot_number};
-ghost use Rattle.zero_sum_lp.specs.EnteringColumns.{EntersFirst};
+ghost use Rattle.zero_sum_lp.specs.Paths.{IsEntering, IsOptimal};
 ghost use Rattle.zero_sum_lp.specs.ExactPaths.{linear_program, IsProgramStart, EndsPath, IsUnfitPivot, LeadsTo};
 
 use lex_tableau::{PivotCount, Tableau, UnfitPivot, Work};
@@ -13,47 +13,20 @@ use std::sync::ledger::Ledger;
 fn is_negative(current: &Tableau, row: usize, column: usize) -> bool
     requires row_in { row < length current.now.basics }
     requires column_in { column < length current.now.nonbasics }
-    ensures negative { result ≡ true → (tableau current.now).cell row column <ℚ zero_ℚ }
-    ensures otherwise { result ≡ false → zero_ℚ ≤ℚ (tableau current.now).cell row column }
+    ensures { IsTrue result ↔ ((tableau current.now).cell row column <ℚ zero_ℚ) }
 {
     current.entry_sign(row, column) < 0
-}
-
-// The column to enter after one more was looked at.
-fn next_entering(
-    current: &Tableau,
-    objective: usize,
-    column: usize,
-    best: Option<usize>,
-) -> Option<usize>
-    requires row_in { objective < length current.now.basics }
-    requires column_in { column < length current.now.nonbasics }
-    requires best { EntersFirst objective column (tableau current.now) best }
-    ensures { EntersFirst objective (suc column) (tableau current.now) result }
-{
-    if !is_negative(current, objective, column) {
-        return best;
-    }
-    let Some(old) = best else {
-        return Some(column);
-    };
-    if current.nonbasic(column) < current.nonbasic(old) {
-        Some(column)
-    } else {
-        Some(old)
-    }
 }
 
 // The column with a negative entry in the objective row whose variable has the least number.
 fn entering(current: &Tableau, objective: usize) -> Option<usize>
     requires { objective < length current.now.basics }
-    ensures { EntersFirst objective (length current.now.nonbasics) (tableau current.now) result }
+    ensures { MatchOption result (IsOptimal objective (tableau current.now))
+        (IsEntering objective (tableau current.now)) }
 {
-    let mut best = None;
-    for column in 0..current.nonbasics().len() {
-        best = next_entering(current, objective, column, best);
-    }
-    best
+    (0..current.nonbasics().len())
+        .filter(|column| is_negative(current, objective, *column))
+        .min_by_key(|column| current.nonbasic(*column))
 }
 
 /// Follows the path to its end.

@@ -1,6 +1,6 @@
 use Rattle.std.proofs.Common.{ap, Ok}
 use Rattle.verdicts.specs.declared.tables.TableVerdict.TheVariants as verdicts
-use Rattle.verdicts.proofs.MappedErrorLemmas.{was_value}
+use Rattle.lists.proofs.MappedErrorLemmas.{was_value}
 use Rattle.ne_checker.proofs.table_lines.table_line.Goals as goal
 
 pub returns-in-Better : goal.returns-in-Better

@@ -5,7 +5,7 @@ use Rattle.behaviour_profile.specs.EntryTests.{profile_in}
 use Rattle.ne_printer.specs.ReadLines.{IsLine}
 use Rattle.verdicts.specs.TreeScratches.{reply_of}
 use Rattle.verdicts.specs.declared.trees.TreeVerdict.TheVariants as verdicts
-use Rattle.verdicts.proofs.MappedErrorLemmas.{was_value}
+use Rattle.lists.proofs.MappedErrorLemmas.{was_value}
 use Rattle.ne_checker.specs.Texts.{better_text}
 use Rattle.ne_checker.proofs.TreeLineLemmas.{line_out_of_range, line_told, tested_behaviour}
 use Rattle.ne_checker.proofs.tree_lines.tree_line.Goals as goal

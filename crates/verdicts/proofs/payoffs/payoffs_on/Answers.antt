@@ -11,7 +11,7 @@ use Rattle.game_theory.proofs.EntryLemmas.{listed-push}
 use Rattle.verdicts.specs.TreeBehaviours.{game_of}
 use Rattle.verdicts.specs.TreeSteps.{behaviour_steps_at}
 use Rattle.pure_payoffs.specs.declared.stop.PayoffStop.TheVariants as stops
-use Rattle.verdicts.proofs.MappedErrorLemmas.{was_error, was_value}
+use Rattle.lists.proofs.MappedErrorLemmas.{was_error, was_value}
 use Rattle.verdicts.proofs.payoffs.payoffs_on.Goals as goal
 
 pub returns-in_err-payoff-clause-stop : goal.returns-in_err-payoff-clause-stop
